@@ -1,0 +1,6 @@
+pub mod Table
+pub mod Skipping
+pub mod Fronts
+pub mod Spelling
+pub mod Pieces
+pub mod Streams

@@ -1,0 +1,4 @@
+use Rattle.reader.proofs.classes.class_of.Needs as need
+
+pub entry-requires : need.entry-requires
+entry-requires c κs = tt
