@@ -6,7 +6,6 @@ ghost use lib.ListN.{length};
 ghost use Rattle.model.specs.Reading.{pick, same, long-signs, short-signs};
 ghost use Rattle.reader.specs.Pieces.{found, pair-from, sign-from, got-of, Two, Fits-in};
 use super::tokens::Piece;
-
 use super::tokens::Token;
 use model::faults::ReaderFault;
 use model::tokens::Sign;
