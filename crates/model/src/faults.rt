@@ -209,6 +209,15 @@ impl Cause {
     }
 }
 
+impl Fault {
+    /// A cause at a place.
+    pub fn at(cause: Cause, place: usize) -> Fault
+        ensures { λ r. ⌜ (r .cause ≡ cause) × (r .place ≡ place) ⌝ }
+    {
+        Fault { cause, place }
+    }
+}
+
 impl RunFault {
     /// Its number, 60 to 68.
     pub fn number(self) -> u8
@@ -257,10 +266,7 @@ pub impl From<Placed<ReaderFault>> for Fault as FaultOfReader {
     ghost converts = { λ p r. (r .cause ≡ Causes.Reader (p .fault)) × (r .place ≡ p .place) };
 
     fn from(p: Placed<ReaderFault>) -> Fault {
-        Fault {
-            cause: Cause::Reader(p.fault),
-            place: p.place,
-        }
+        Fault::at(Cause::Reader(p.fault), p.place)
     }
 }
 
@@ -268,10 +274,7 @@ pub impl From<Placed<GrammarFault>> for Fault as FaultOfGrammar {
     ghost converts = { λ p r. (r .cause ≡ Causes.Grammar (p .fault)) × (r .place ≡ p .place) };
 
     fn from(p: Placed<GrammarFault>) -> Fault {
-        Fault {
-            cause: Cause::Grammar(p.fault),
-            place: p.place,
-        }
+        Fault::at(Cause::Grammar(p.fault), p.place)
     }
 }
 
@@ -279,10 +282,7 @@ pub impl From<Placed<MeaningFault>> for Fault as FaultOfMeaning {
     ghost converts = { λ p r. (r .cause ≡ Causes.Meaning (p .fault)) × (r .place ≡ p .place) };
 
     fn from(p: Placed<MeaningFault>) -> Fault {
-        Fault {
-            cause: Cause::Meaning(p.fault),
-            place: p.place,
-        }
+        Fault::at(Cause::Meaning(p.fault), p.place)
     }
 }
 
@@ -290,9 +290,6 @@ pub impl From<Placed<RoomFault>> for Fault as FaultOfRoom {
     ghost converts = { λ p r. (r .cause ≡ Causes.Room (p .fault)) × (r .place ≡ p .place) };
 
     fn from(p: Placed<RoomFault>) -> Fault {
-        Fault {
-            cause: Cause::Room(p.fault),
-            place: p.place,
-        }
+        Fault::at(Cause::Room(p.fault), p.place)
     }
 }
