@@ -1,0 +1,3 @@
+//! Piles at work, over elements of several kinds.
+#[cfg(test)]
+mod tests;

@@ -1,0 +1,3 @@
+//! The reader on texts that are easily misread.
+#[cfg(test)]
+mod tests;
