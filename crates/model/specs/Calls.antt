@@ -47,8 +47,9 @@ pub data Call : Type 0 where
   start : ℕ → ℕ → Call
   advance : ℕ → ℕ → ℕ → Call
 
+-- a translate tells the code's length
 pub data Answer : Type 0 where
-  translated : Answer
+  translated : ℕ → Answer
   faulty : Cause → ℕ → Answer
   begun : Answer
   no-start : StartRefusal → Answer
@@ -88,16 +89,29 @@ abbrev pub translation : List ℕ → ℕ → ℕ → Translation
 translation text k j =
     elim (leb (length text) 65535) [ true ↦ of-verdict text k (verdict j (read text) at-start) | false ↦ fault (Causes.Room LongText) 65535 ]
 
+-- a translate ends any run; cells and host stay
 abbrev pub translated-to : World → ℕ → ℕ → Translation → Then
 translated-to w k j (into es) =
     record {
-      world = record { runner = ready (length es); table = filled-with no-entry es k (w .table); names = filled-with no-name [] j (w .names); cells = w .cells; host = w .host };
-      answer = translated;
+      world = record {
+        runner = ready (length es);
+        table = filled-with no-entry es k (w .table);
+        names = filled-with no-name [] j (w .names);
+        cells = w .cells;
+        host = w .host;
+      };
+      answer = translated (length es);
     }
-translated-to w k j (fault n p) =
+translated-to w k j (fault c p) =
     record {
-      world = record { runner = empty; table = filled-with no-entry [] k (w .table); names = filled-with no-name [] j (w .names); cells = w .cells; host = w .host };
-      answer = faulty n p;
+      world = record {
+        runner = empty;
+        table = filled-with no-entry [] k (w .table);
+        names = filled-with no-name [] j (w .names);
+        cells = w .cells;
+        host = w .host;
+      };
+      answer = faulty c p;
     }
 
 -- ── start ───────────────────────────────────────────────────────────────────────────────────
@@ -106,14 +120,22 @@ translated-to w k j (fault n p) =
 abbrev pub refusing : World → Answer → Then
 refusing w a = record { world = w; answer = a }
 
+-- the cells in use are cleared, and the table of n entries is begun at entry 0 with none filled
+abbrev pub fresh-run : World → ℕ → ℕ → World
+fresh-run w n used =
+    record {
+      runner = started n used 0 0;
+      table = w .table;
+      names = w .names;
+      cells = filled-with (pos 0) [] used (w .cells);
+      host = w .host;
+    }
+
 abbrev pub begin : World → ℕ → ℕ → ℕ → Then
 begin w k c n =
     elim (leb n k) [
       | false ↦ refusing w (no-start Starts.ShortTable)
-      | true ↦ (let used = min c 65535 in record {
-        world = record { runner = started n used 0 0; table = w .table; names = w .names; cells = filled-with (pos 0) [] used (w .cells); host = w .host };
-        answer = begun;
-      })
+      | true ↦ record { world = fresh-run w n (min c 65535); answer = begun }
     ]
 
 abbrev pub starting : World → ℕ → ℕ → Runner → Then
@@ -123,15 +145,23 @@ starting w k c (started n u f i) = begin w k c n
 
 -- ── advance ─────────────────────────────────────────────────────────────────────────────────
 
+-- a run goes on only where the budget was spent
 abbrev pub next-runner : ℕ → ℕ → Machine → Told → Runner
 next-runner n u m (Running k) = started n u (m .fill) (m .at)
 next-runner n u m (Ended k) = ready n
 next-runner n u m (Stopped f i p k) = ready n
 
-abbrev pub on : World → ℕ → ℕ → ℕ → After → Then
-on w n u c a =
+-- what a run of n entries over u cells leaves
+abbrev pub on : World → ℕ → ℕ → After → Then
+on w n u a =
     record {
-      world = record { runner = next-runner n u (a .machine) (a .told); table = w .table; names = w .names; cells = a .machine .memory ++ drop u (w .cells); host = a .host };
+      world = record {
+        runner = next-runner n u (a .machine) (a .told);
+        table = w .table;
+        names = w .names;
+        cells = a .machine .memory ++ drop u (w .cells);
+        host = a .host;
+      };
       answer = tells (a .told);
     }
 
@@ -143,7 +173,7 @@ advancing w k c budget (started n u f i) =
       | false ↦ refusing w (no-advance Advances.ShortTable)
       | true ↦ elim (leb u c) [
         | false ↦ refusing w (no-advance Advances.FewCells)
-        | true ↦ on w n u c (advanced budget (take n (w .table)) (record { memory = take u (w .cells); fill = f; at = i }) (w .host))
+        | true ↦ on w n u (advanced budget (take n (w .table)) (record { memory = take u (w .cells); fill = f; at = i }) (w .host))
       ]
     ]
 

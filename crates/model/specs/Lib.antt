@@ -13,7 +13,7 @@ pub mod Bodies
 pub mod Heads
 pub mod Judge
 pub mod Grammar
-pub mod Law
+pub mod Acceptance
 pub mod Codes
 pub mod Code
 pub mod Values

@@ -22,7 +22,7 @@ use Rattle.model.specs.Calls.{World, Runner, empty, Call, translate, start, ad
 abbrev pub Script : List ℕ → Block → Type 0
 Script text b = (room : ℕ) × (verdict room (read text) at-start ≡ accepted b)
 
--- ── histories ────────────────────────────────────────────────────────────────────────────────
+-- ── histories ───────────────────────────────────────────────────────────────────────────────
 
 -- what is remembered of a run: the script's text, what the host meant at the start, what was told since (newest first),
 -- the sum of the budgets of its accepted advances, and whether a translate has come since
@@ -64,8 +64,8 @@ budget-of (advance k c n) = n
 
 -- what is remembered after a call, by its answer
 abbrev pub remembered : History → Call → Then → Answer → History
-remembered h c t translated = record { world = t .world; text = some (text-of c); run = interrupted (h .run); told = h .told }
-remembered h c t (faulty n p) = record { world = t .world; text = h .text; run = interrupted (h .run); told = h .told }
+remembered h c t (translated n) = record { world = t .world; text = some (text-of c); run = interrupted (h .run); told = h .told }
+remembered h c t (faulty f p) = record { world = t .world; text = h .text; run = interrupted (h .run); told = h .told }
 remembered h c t begun = record { world = t .world; text = h .text; run = new-run (h .world) (h .text); told = h .told }
 remembered h c t (no-start r) = record { world = t .world; text = h .text; run = h .run; told = h .told }
 remembered h c t (no-advance r) = record { world = t .world; text = h .text; run = h .run; told = h .told }
@@ -119,7 +119,7 @@ abbrev pub Each : {A : Type 0} → (A → Type 0) → List A → Type 0
 Each P [] = Unit {0}
 Each P (x ∷ xs) = P x × Each P xs
 
--- the person's end or fault, or the one fault that only the machine has
+-- an answer is the person's end or fault, or the one fault that only the machine has
 abbrev pub Matches : Outcome (Unit {0}) → Told → Type 0
 Matches (done u s) (Ended k) = Unit {0}
 Matches (done u s) (Running k) = ⊥
@@ -145,7 +145,9 @@ Sound (Ended k) = Unit {0}
 Sound (Running k) = Unit {0}
 Sound (Stopped f i p k) = ((65 ≤ run-number f) × (run-number f ≤ 68)) → ⊥
 
--- every call is lent no more than there is
+-- ── the promise ──────────────────────────────────────────────────────────────────────────────
+
+-- every call is lent no more than there is, and a budget fits 32 bits
 abbrev pub Lent : World → Call → Type 0
 Lent w (translate text k j) = (k ≤ length (w .table)) × (j ≤ length (w .names))
 Lent w (start k c) = (k ≤ length (w .table)) × (c ≤ length (w .cells))

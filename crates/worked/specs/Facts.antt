@@ -2,10 +2,12 @@
 -- Assumes nothing.
 use mathlib.Core.Path.{_≡_}
 use mathlib.Core.List.{List, [], _∷_, _++_, map}
-use Prim.Native.Nat.{ℕ}
+use Prim.Native.Nat.{ℕ, _-_}
 use lib.IntN.{ℤ, negsuc}
-use lib.ListN.{replicate}
+use lib.ListN.{length, replicate}
 use Rattle.model.specs.declared.table.Entry.{Entry}
+use Rattle.model.specs.declared.names.Name.{Name}
+use Rattle.model.specs.declared.names.NameKind.the-variants.{Procedure}
 use Rattle.model.specs.declared.told.Told.{Told}
 use Rattle.model.specs.declared.told.Told.the-variants.{Ended, Stopped, Running}
 use Rattle.host.specs.Meaning.{Meaning}
@@ -14,16 +16,18 @@ use Rattle.model.specs.Tree.{Block}
 use Rattle.model.specs.Reading.{read}
 use Rattle.model.specs.Judge.{Verdict, accepted, refused, verdict, at-start}
 use Rattle.model.specs.Person.{Outcome, done, faulted, out-of-turns, by-hand}
+use Rattle.model.specs.Code.{entry}
 use Rattle.model.specs.Machine.{no-entry}
-use Rattle.model.specs.Calls.{World, empty, Call, translate, start, advance, Answer, translated, faulty, begun, no-start, no-advance, tells, after, no-name, Translation, into, fault, translation}
+use Rattle.model.specs.Calls.{World, empty, Call, translate, start, advance, Answer, translated, faulty, begun, no-start, no-advance, tells, after, no-name}
 
 -- ── what the calls answer ───────────────────────────────────────────────────────────────────
 
--- an answer by numbers
+-- an answer by numbers: a translate's by the code's length, a fault with its place
 pub data Said : Type 0 where
+  entries : ℕ → Said
+  no-at : ℕ → ℕ → Said
   yes : Said
   no : ℕ → Said
-  no-at : ℕ → ℕ → Said
   running ended : ℕ → Said
   -- number, entry, place, steps
   stopped : ℕ → ℕ → ℕ → ℕ → Said
@@ -34,7 +38,7 @@ said-of (Stopped f i p k) = stopped (run-number f) i p k
 said-of (Running k) = running k
 
 abbrev pub said : Answer → Said
-said translated = yes
+said (translated n) = entries n
 said (faulty c p) = no-at (number c) p
 said begun = yes
 said (no-start r) = no (start-number r)
@@ -49,20 +53,24 @@ over (c ∷ cs) w =
     let rest = over cs (t .world) in
     (said (t .answer) ∷ rest .0, rest .1)
 
--- an empty runner, room for 60 entries and 10 names, cells that hold anything, these values waiting, and room for 5 more
+-- an empty runner, memory that holds anything, these values waiting, and room for 5 more
 abbrev pub set-up : ℕ → List ℤ → World
 set-up cells waiting =
     record {
       runner = empty;
-      table = replicate 60 no-entry;
-      names = replicate 10 no-name;
+      table = replicate 60 (entry 99 7 7 7);
+      names = replicate 10 (record { place = 7; length = 7; kind = Procedure; cell = 7; entry = 7 });
       cells = replicate cells (negsuc 8);
       host = record { waiting = waiting; written = []; room = 5 };
     }
 
--- translate, start, and an advance for each budget
-abbrev pub calls : List ℕ → ℕ → List ℕ → List Call
-calls text cells budgets = translate text 60 10 ∷ start 60 cells ∷ map (advance 60 cells) budgets
+-- the world that translate and start leave, all memory lent
+abbrev pub started : List ℕ → ℕ → List ℤ → World
+started text cells waiting = after (start 60 cells) (after (translate text 60 10) (set-up cells waiting) .world) .world
+
+-- what translate says, and what it leaves in the table and in the names
+abbrev pub translated-as : List ℕ → Said × List Entry × List Name
+translated-as text = let t = after (translate text 60 10) (set-up 0 []) in (said (t .answer), t .world .table, t .world .names)
 
 -- ── what the person comes to ────────────────────────────────────────────────────────────────
 
@@ -94,12 +102,8 @@ pub data Fact : Type 0 where
   -- with so many turns and these values waiting, the person comes to this
   follows : List ℕ → ℕ → List ℤ → Hand → Fact
 
-abbrev pub refusal : Translation → Said
-refusal (into es) = yes
-refusal (fault c p) = no-at (number c) p
-
 abbrev pub Holds : Fact → Type 0
-Holds (becomes text es) = translation text 60 10 ≡ into es
-Holds (is-refused text n p) = refusal (translation text 60 10) ≡ no-at n p
-Holds (runs text cells waiting budgets ss written) = over (calls text cells budgets) (set-up cells waiting) ≡ (yes ∷ yes ∷ ss, written)
+Holds (becomes text es) = translated-as text ≡ (entries (length es), es ++ replicate (60 - length es) no-entry, replicate 10 no-name)
+Holds (is-refused text n p) = translated-as text ≡ (no-at n p, replicate 60 no-entry, replicate 10 no-name)
+Holds (runs text cells waiting budgets ss written) = over (map (advance 60 cells) budgets) (started text cells waiting) ≡ (ss, written)
 Holds (follows text turns waiting h) = following (verdict 10 (read text) at-start) turns waiting ≡ h
