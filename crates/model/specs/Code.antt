@@ -19,7 +19,7 @@ entry c a b p = record { code = c; a = pos a; b = b; place = p }
 abbrev pub plain : ℕ → ℕ → Entry
 plain c p = entry c 0 0 p
 
--- ── where things are ─────────────────────────────────────────────────────────────────────────
+-- ── where things are ────────────────────────────────────────────────────────────────────────
 
 -- where a block is laid: its first cell, how many it has, and the entries at which its routines begin, as far as known
 pub record Laid : Type 0 where
@@ -38,7 +38,7 @@ cell-of ls f = getD ls (f .hops) nowhere .first + f .index
 abbrev pub begin-of : List Laid → Found → ℕ
 begin-of ls f = getD (getD ls (f .hops) nowhere .begins) (f .index) 0
 
--- ── expressions and commands ─────────────────────────────────────────────────────────────────
+-- ── expressions and commands ────────────────────────────────────────────────────────────────
 
 abbrev pub op-code : Operator → ℕ
 op-code Operators.Add = ADD
@@ -87,7 +87,7 @@ of-cmd ls n (Tree.enquanto p x c) =
     let cs = of-cmd ls at c in
     xs ++ entry JMPF (at + length cs + 1) 0 p ∷ cs ++ entry JMP n 0 p ∷ []
 
--- ── blocks ───────────────────────────────────────────────────────────────────────────────────
+-- ── blocks ──────────────────────────────────────────────────────────────────────────────────
 
 abbrev pub with-begin : Laid → ℕ → Laid
 with-begin l n = record { first = l .first; cells = l .cells; begins = l .begins ++ n ∷ [] }

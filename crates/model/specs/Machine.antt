@@ -50,7 +50,7 @@ second m = getD (m .memory) (m .fill - 2) (pos 0)
 abbrev pub onward : Now → List ℤ → ℕ → Went
 onward n mem k = goes (record { memory = mem; fill = k; at = suc (n .machine .at) }) (n .host)
 
--- ── the tests, each with the fault that it tells ─────────────────────────────────────────────
+-- ── the tests, each with the fault that it tells ────────────────────────────────────────────
 
 -- there are k values
 abbrev pub having : ℕ → (Now → Went) → Now → Went
@@ -78,7 +78,7 @@ in-cells f n = elim (below (filled n) (n .entry .a)) [ true ↦ f n | false ↦ 
 abbrev pub with-room : ℕ → (Now → Went) → Now → Went
 with-room k f n = elim (leb (filled n + k) (length (n .machine .memory))) [ true ↦ f n | false ↦ stops CellsFull ]
 
--- ── what is done to the cells ────────────────────────────────────────────────────────────────
+-- ── what is done to the cells ───────────────────────────────────────────────────────────────
 
 abbrev pub push : ℤ → Now → Went
 push v n = onward n (set (n .machine .memory) (filled n) v) (suc (filled n))
@@ -97,7 +97,7 @@ write mem a (v ∷ vs) = write (set mem a v) (suc a) vs
 abbrev pub cut : List ℤ → ℕ → ℕ → List ℤ
 cut mem a k = take k (drop a mem)
 
--- ── the instructions ─────────────────────────────────────────────────────────────────────────
+-- ── the instructions ────────────────────────────────────────────────────────────────────────
 
 abbrev pub two : Operator → Now → Went
 two o = having 2 (λ n. put-result 2 n (combine o (second (n .machine)) (top (n .machine))))
@@ -193,7 +193,7 @@ abbrev pub carried-out : Option (Now → Went) → Now → Went
 carried-out none n = stops NoCode
 carried-out (some f) n = f n
 
--- ── steps and runs ───────────────────────────────────────────────────────────────────────────
+-- ── steps and runs ──────────────────────────────────────────────────────────────────────────
 
 -- one instruction of the entries es
 abbrev pub step : List Entry → Machine → Meaning → Went

@@ -40,7 +40,7 @@ pub data Outcome (A : Type 0) : Type 0 where
 infixl 1 _then_
 abbrev pub _then_ : {A B : Type 0} → Outcome A → (A → Scene → Outcome B) → Outcome B
 done a s then f = f a s
-faulted n p s then f = faulted n p s
+faulted r p s then f = faulted r p s
 out-of-turns s then f = out-of-turns s
 
 -- ── blocks and activations ──────────────────────────────────────────────────────────────────
@@ -70,10 +70,11 @@ no-activation = record { of = nothing; cells = [] }
 abbrev pub fresh : Block → Activation
 fresh b = record { of = b; cells = replicate (own-cells b) (pos 0) }
 
+-- what a variable holds, as many activations up the chain as its block is away
 abbrev pub look : List Activation → Found → ℤ
 look cs f = getD (getD cs (f .hops) no-activation .cells) (f .index) (pos 0)
 
-abbrev with-cell : Activation → ℕ → ℤ → Activation
+abbrev pub with-cell : Activation → ℕ → ℤ → Activation
 with-cell a i v = record { of = a .of; cells = set (a .cells) i v }
 
 abbrev pub put-cell : List Activation → Found → ℤ → List Activation
@@ -82,7 +83,7 @@ put-cell cs f v = set cs (f .hops) (with-cell (getD cs (f .hops) no-activation) 
 abbrev pub with-chain : Scene → List Activation → Scene
 with-chain s cs = record { chain = cs; host = s .host; events = s .events; turns = s .turns }
 
--- ── turns and calls ──────────────────────────────────────────────────────────────────────────
+-- ── turns and calls ─────────────────────────────────────────────────────────────────────────
 
 -- a turn is taken, or there is none
 abbrev pub turn : {A : Type 0} → Scene → (Scene → Outcome A) → Outcome A
@@ -91,13 +92,6 @@ turn s f =
       | zero ↦ out-of-turns s
       | suc n ↦ f (record { chain = s .chain; host = s .host; events = s .events; turns = n })
     ]
-
--- ── expressions and commands ─────────────────────────────────────────────────────────────────
-
--- what an operator or a sign yields, or its fault at its place
-abbrev pub yield : ℕ → Scene → Result → Outcome ℤ
-yield p s (value v) = done v s
-yield p s (fails n) = faulted n p s
 
 -- how a routine's block is followed, in a scene whose chain begins with its activation
 abbrev pub Follow : Type 0
@@ -115,6 +109,13 @@ called follow s f =
     let b = callee t f in
     follow b (with-chain t (fresh b ∷ drop (f .hops) (t .chain))) then λ _ u.
     done (getD (getD (u .chain) 0 no-activation .cells) 0 (pos 0)) (with-chain u (take (f .hops) (t .chain) ++ drop 1 (u .chain))))
+
+-- ── expressions and commands ────────────────────────────────────────────────────────────────
+
+-- what an operator or a sign yields, or its fault at its place
+abbrev pub yield : ℕ → Scene → Result → Outcome ℤ
+yield p s (value v) = done v s
+yield p s (fails f) = faulted f p s
 
 -- operands go left to right, both sides of `e` and `ou` too
 abbrev pub evaluate : Follow → Exp → Scene → Outcome ℤ
@@ -158,7 +159,7 @@ execute fo again (se-senao p x c q d) s =
     evaluate fo x s then λ v t. elim (eqZ v (pos 0)) [ true ↦ execute fo again d t | false ↦ execute fo again c t ]
 execute fo again (Tree.enquanto p x c) s = again p x c s
 
--- ── whole scripts ────────────────────────────────────────────────────────────────────────────
+-- ── whole scripts ───────────────────────────────────────────────────────────────────────────
 
 -- d bounds how deep turns nest: each level takes a turn, so one more than there are turns is never met
 abbrev mutual

@@ -145,7 +145,7 @@ Sound (Ended k) = Unit {0}
 Sound (Running k) = Unit {0}
 Sound (Stopped f i p k) = ((65 ≤ run-number f) × (run-number f ≤ 68)) → ⊥
 
--- ── the promise ──────────────────────────────────────────────────────────────────────────────
+-- ── the promise ─────────────────────────────────────────────────────────────────────────────
 
 -- every call is lent no more than there is, and a budget fits 32 bits
 abbrev pub Lent : World → Call → Type 0

@@ -13,6 +13,7 @@ pub(crate) enum Class {
     Other,
 }
 
+// Short names, for the table alone.
 const B: Class = Class::Blank;
 
 const C: Class = Class::Brace;
@@ -25,7 +26,9 @@ const U: Class = Class::Underscore;
 
 const X: Class = Class::Other;
 
+// The class of each byte, in order.
 const CLASS: [Class; 256] = [
+    // 0 to 15
     X,
     X,
     X,
@@ -42,6 +45,7 @@ const CLASS: [Class; 256] = [
     B,
     X,
     X,
+    // 16 to 31
     X,
     X,
     X,
@@ -58,6 +62,7 @@ const CLASS: [Class; 256] = [
     X,
     X,
     X,
+    // 32 to 47
     B,
     X,
     X,
@@ -74,6 +79,7 @@ const CLASS: [Class; 256] = [
     X,
     X,
     X,
+    // 48 to 63
     D,
     D,
     D,
@@ -90,6 +96,7 @@ const CLASS: [Class; 256] = [
     X,
     X,
     X,
+    // 64 to 79
     X,
     L,
     L,
@@ -106,6 +113,7 @@ const CLASS: [Class; 256] = [
     L,
     L,
     L,
+    // 80 to 95
     L,
     L,
     L,
@@ -122,6 +130,7 @@ const CLASS: [Class; 256] = [
     X,
     X,
     U,
+    // 96 to 111
     X,
     L,
     L,
@@ -138,6 +147,7 @@ const CLASS: [Class; 256] = [
     L,
     L,
     L,
+    // 112 to 127
     L,
     L,
     L,
@@ -154,6 +164,7 @@ const CLASS: [Class; 256] = [
     X,
     X,
     X,
+    // 128 to 143
     X,
     X,
     X,
@@ -170,6 +181,7 @@ const CLASS: [Class; 256] = [
     X,
     X,
     X,
+    // 144 to 159
     X,
     X,
     X,
@@ -186,6 +198,7 @@ const CLASS: [Class; 256] = [
     X,
     X,
     X,
+    // 160 to 175
     X,
     X,
     X,
@@ -202,6 +215,7 @@ const CLASS: [Class; 256] = [
     X,
     X,
     X,
+    // 176 to 191
     X,
     X,
     X,
@@ -218,6 +232,7 @@ const CLASS: [Class; 256] = [
     X,
     X,
     X,
+    // 192 to 207
     X,
     X,
     X,
@@ -234,6 +249,7 @@ const CLASS: [Class; 256] = [
     X,
     X,
     X,
+    // 208 to 223
     X,
     X,
     X,
@@ -250,6 +266,7 @@ const CLASS: [Class; 256] = [
     X,
     X,
     X,
+    // 224 to 239
     X,
     X,
     X,
@@ -266,6 +283,7 @@ const CLASS: [Class; 256] = [
     X,
     X,
     X,
+    // 240 to 255
     X,
     X,
     X,
