@@ -1,8 +1,12 @@
+use model::faults::Fault;
+use model::faults::FaultOfReader;
 use model::faults::Placed;
 use model::faults::ReaderFault;
 use reader::Reader;
 use reader::tokens::Lexeme;
 use reader::tokens::Token;
+use report::faults::FaultReport;
+use report::faults::FaultReportDisplay;
 use report::spelling::sign_text;
 use report::spelling::word_text;
 use std::test::*;
@@ -150,4 +154,19 @@ fn case_counts_and_blanks_do_not() -> Result<(), Fail> {
     is_name(reader.next(), b"seE", 11)?;
     is_end(reader.next())?;
     is_end(reader.next())
+}
+
+#[test]
+fn a_fault_is_shown_with_line_and_column(rt: LibcRuntime) -> Result<(), Fail> {
+    let text = b"programa p;\n  x := 2147483648";
+    let fault = Fault::from(Placed {
+        fault: ReaderFault::LargeNumber,
+        place: 19,
+    });
+    let told = FaultReport { text, fault };
+    let shown = format!(rt.alloc(), "{told}")?;
+    check_eq(
+        shown.as_str(),
+        "fault 12, line 2, column 8: the number is above 2147483647",
+    )
 }

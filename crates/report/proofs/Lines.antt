@@ -2,13 +2,12 @@
 use mathlib.Core.Path.{_≡_, refl, ap, _∙_}
 use mathlib.Core.Bool.{true, false}
 use mathlib.Core.List.{List, [], _∷_, _++_}
-use Prim.Native.Nat.{ℕ, suc, _+_, _<_, _≤_, min}
+use Prim.Native.Nat.{ℕ, suc, _+_, _<_, _≤_}
 use native.Mathlib.Omega.{arith}
 use lib.Dec.{eqb}
 use lib.ListN.{length, take, getD}
 use borrow.Author.Tests.{eq-eqb, ne-eqb}
-use borrow.Author.Needs.{needs}
-use Rattle.std.proofs.shelf.Lists.{take-more, length-take, same-lists, places}
+use Rattle.std.proofs.shelf.Lists.{take-more, length-take}
 use Rattle.report.specs.Positions.{newlines, since-newline}
 
 newlines-snoc : (xs ys : List ℕ) → newlines (xs ++ ys) ≡ newlines xs + newlines ys
@@ -46,10 +45,6 @@ newlines-within text i = omega (arith, newlines-few (take i text), length-take i
 
 pub since-within : (text : List ℕ) (i : ℕ) → since-newline 0 (take i text) ≤ i
 since-within text i = omega (arith, since-few 0 (take i text), length-take i text)
-
--- a front ends at the text's end
-pub take-min : (text : List ℕ) (n i : ℕ) → i ≡ min n (length text) → take i text ≡ take n text
-take-min text n i e = same-lists _ _ (search (needs, places)) (λ k d h. grind (arith, places))
 
 module _ (text : List ℕ) (i : ℕ) (h : i < length text) where
   more : take (i + 1) text ≡ take i text ++ (getD text i 0 ∷ [])

@@ -4,7 +4,8 @@ use native.Mathlib.Omega.{arith}
 use lib.ListN.{take}
 use Prim.Native.Nat.{suc, _≤_}
 use Rattle.report.specs.Positions.{newlines, since-newline}
-use Rattle.report.proofs.Lines.{newlines-within, since-within, newline-here, no-newline-here, since-here, since-on, take-min}
+use Rattle.report.proofs.Lines.{newlines-within, since-within, newline-here, no-newline-here, since-here, since-on}
+use Rattle.host.proofs.Fronts.{take-capped}
 use Rattle.report.proofs.positions.locate.Needs as need
 use Rattle.report.proofs.positions.locate.Needs.{then-text-i-eq10, else-text-i-eq10}
 
@@ -29,7 +30,7 @@ loop-i-again c =
 pub returns : need.returns
 returns c =
     let text = c .args .text .now in
-    let all : take (c .loop-i .i) text ≡ take (c .args .place) text = take-min text (c .args .place) (c .loop-i .i) (omega arith) in
+    let all : take (c .loop-i .i) text ≡ take (c .args .place) text = take-capped (c .loop-i .i) (c .args .place) text (omega arith) in
     record {
       line = c .loop-i .inv .0 ∙ ap (λ l. suc (newlines l)) all;
       column = c .loop-i .inv .1 ∙ ap (λ l. suc (since-newline 0 l)) all;
