@@ -1,12 +1,10 @@
 -- The three calls on a runner and the memory that it is lent. Assumes nothing.
-use mathlib.Core.Bool.{Bool, true, false}
-use mathlib.Core.List.{List, [], _∷_, _++_}
-use mathlib.Core.Option.{Option, none, some}
-use Prim.Native.Nat.{ℕ, zero, suc, _+_, _-_, min}
-use lib.Dec.{leb, ltb}
+use mathlib.Core.Bool.{true, false}
+use mathlib.Core.List.{List, [], _++_}
+use Prim.Native.Nat.{ℕ, _+_, _-_, min}
+use lib.Dec.{leb}
 use lib.IntN.{ℤ, pos}
 use lib.ListN.{length, take, drop, replicate}
-use Rattle.model.specs.Tree.{Block}
 use Rattle.model.specs.Reading.{read}
 use Rattle.model.specs.Judge.{Verdict, accepted, refused, verdict, at-start}
 use Rattle.model.specs.Code.{of-program}

@@ -8,7 +8,7 @@ use Rattle.model.specs.Code.{of-program}
 use Rattle.host.specs.Meaning.{Meaning}
 use Rattle.model.specs.declared.told.Told.{Told}
 use Rattle.model.specs.declared.told.Told.the-variants.{Ended, Stopped, Running}
-use Rattle.model.specs.Machine.{After, advanced, started}
+use Rattle.model.specs.Machine.{advanced, started}
 use Rattle.model.specs.Person.{Outcome, done, faulted, out-of-turns, by-hand}
 use Rattle.model.specs.Promise.{Script, Comes}
 

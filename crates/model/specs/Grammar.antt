@@ -3,9 +3,9 @@
 use mathlib.Core.Path.{_≡_}
 use mathlib.Core.Bool.{Bool, true, false}
 use mathlib.Core.List.{List, [], _∷_, _++_}
-use mathlib.Core.Option.{Option, none, some}
-use Prim.Native.Nat.{ℕ, zero, suc, pred, _+_, _<_, _≤_}
-use lib.IntN.{ℤ, pos}
+use mathlib.Core.Option.{some}
+use Prim.Native.Nat.{ℕ, suc, pred, _+_, _<_, _≤_}
+use lib.IntN.{pos}
 use lib.ListN.{length}
 use Rattle.model.specs.declared.tokens.Word.{Word}
 use Rattle.model.specs.declared.tokens.Word.the-variants as Words
@@ -16,7 +16,7 @@ use Rattle.model.specs.declared.script.Ty.the-variants.{Inteiro, Booleano}
 use Rattle.model.specs.declared.script.Operator.{Operator}
 use Rattle.model.specs.Tokens.{Token, Lexeme, word, sign, name, number}
 use Rattle.model.specs.Tree
-use Rattle.model.specs.Tree.{Found, Exp, Cmd, Role, Block, Routines, block, no-more, routine, program, procedure, function}
+use Rattle.model.specs.Tree.{Found, Exp, Cmd, Block, procedure, function}
 use Rattle.model.specs.Tree.{constant, variable, call, negated, denied, joined, assign, invoke, then-do, se-senao}
 use Rattle.model.specs.Ahead.{multiplying, adding, comparing, type-named}
 use Rattle.model.specs.Types.{takes, fitting, giving}

@@ -1,7 +1,7 @@
 -- Tokens of declarations: variables, the heads and ends of routines, the program. Assumes nothing.
 use mathlib.Core.Bool.{true, false}
 use mathlib.Core.List.{List, [], _∷_}
-use mathlib.Core.Option.{Option, none, some}
+use mathlib.Core.Option.{none, some}
 use Prim.Native.Nat.{ℕ, _+_}
 use lib.Dec.{leb, ltb}
 use Rattle.model.specs.declared.tokens.Word.the-variants as Words

@@ -2,7 +2,7 @@
 -- nesting, and the name at it, in this order. Assumes nothing.
 use mathlib.Core.Bool.{true, false}
 use mathlib.Core.List.{List, [], _∷_}
-use mathlib.Core.Option.{Option, none, some}
+use mathlib.Core.Option.{none, some}
 use Prim.Native.Nat.{ℕ}
 use Rattle.model.specs.declared.tokens.Word.the-variants as Words
 use Rattle.model.specs.declared.tokens.Sign.the-variants as Signs

@@ -1,3 +1,4 @@
+-- The definitions of the subject, in the order in which data flows: text, tokens, judged script, table, run.
 pub mod Numbers
 pub mod Tokens
 pub mod Reading

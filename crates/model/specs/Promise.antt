@@ -4,19 +4,19 @@ use mathlib.Core.Bool.{Bool, true, false}
 use mathlib.Core.Logic.{_⊎_}
 use mathlib.Core.List.{List, [], _∷_, _++_}
 use mathlib.Core.Option.{Option, none, some}
-use Prim.Native.Nat.{ℕ, zero, suc, _+_, _^_, _<_, _≤_}
+use Prim.Native.Nat.{ℕ, _+_, _^_, _<_, _≤_}
 use lib.IntN.{ℤ}
 use lib.ListN.{length}
 use Rattle.model.specs.Tree.{Block}
 use Rattle.model.specs.Reading.{read}
-use Rattle.model.specs.Judge.{Verdict, accepted, verdict, at-start}
+use Rattle.model.specs.Judge.{accepted, verdict, at-start}
 use Rattle.host.specs.Meaning.{Meaning}
 use Rattle.model.specs.declared.told.Told.{Told}
 use Rattle.model.specs.declared.told.Told.the-variants.{Ended, Stopped, Running}
 use Rattle.model.specs.declared.faults.RunFault.the-variants.{CellsFull}
 use Rattle.model.specs.Numbers.{run-number}
 use Rattle.model.specs.Person.{Outcome, done, faulted, out-of-turns, Scene, Event, took, wrote, by-hand}
-use Rattle.model.specs.Calls.{World, Runner, empty, Call, translate, start, advance, Answer, translated, faulty, begun, no-start, no-advance, tells, Then, after}
+use Rattle.model.specs.Calls.{World, empty, Call, translate, start, advance, Answer, translated, faulty, begun, no-start, no-advance, tells, Then, after}
 
 -- the script that a text is, with room enough for its names
 abbrev pub Script : List ℕ → Block → Type 0

@@ -1,6 +1,6 @@
 -- The parts of a script that end before a token, whatever that token is, and their types. Assumes nothing.
 use mathlib.Core.Bool.{Bool, true, false, _||_}
-use mathlib.Core.Option.{Option, none, some}
+use mathlib.Core.Option.{none, some}
 use Prim.Native.Nat.{ℕ, pred}
 use Rattle.model.specs.declared.tokens.Word.the-variants as Words
 use Rattle.model.specs.declared.tokens.Sign.the-variants as Signs
@@ -8,11 +8,11 @@ use Rattle.model.specs.declared.script.Ty.{Ty}
 use Rattle.model.specs.declared.faults.MeaningFault.{MeaningFault}
 use Rattle.model.specs.declared.faults.MeaningFault.the-variants.{WrongKind, WrongType}
 use Rattle.model.specs.Tree
-use Rattle.model.specs.Tree.{Found, Exp, Cmd, negated, denied, joined, assign, invoke, then-do, se-senao}
+use Rattle.model.specs.Tree.{Exp, Cmd, negated, denied, joined, assign, invoke, then-do, se-senao}
 use Rattle.model.specs.Names.{Kind, a-variable, a-procedure, a-function}
 use Rattle.model.specs.Ahead.{Next, is-word, is-sign, present, multiplying, adding, comparing}
 use Rattle.model.specs.Types.{is-inteiro, same-type, takes, fitting, giving}
-use Rattle.model.specs.Contexts.{CommandIn, in-body, in-then, in-else, in-loop, BodyIn, own, inner, ExpressionIn, bracketed, assigned, chosen, repeated, SimpleIn, left-of, right-of, TermIn, first-term, plus-term, minus-term, next-term, FactorIn, first-factor, next-factor, denied-factor}
+use Rattle.model.specs.Contexts.{CommandIn, in-body, in-then, in-else, in-loop, ExpressionIn, bracketed, assigned, chosen, repeated, SimpleIn, left-of, right-of, TermIn, first-term, plus-term, minus-term, next-term, FactorIn, first-factor, next-factor, denied-factor}
 use Rattle.model.specs.Contexts.{Focus, want-programa, want-title, want-title-end, want-period, block-start, want-variable, past-variable, want-variable-type, want-group-end, past-group, past-routine, want-procedure-name, want-function-name, want-function-colon, want-function-type, want-head-end, want-routine-end}
 use Rattle.model.specs.Contexts.{want-command, past-name, to-assign, leia-open, escreva-open, leia-name, escreva-name, leia-close, escreva-close, past-command, past-then, past-commands, past-semicolon, want-simple, want-factor, past-factor, past-term, past-simple, past-expression}
 

@@ -1,6 +1,5 @@
 -- The tokens of a script, and what reading a text to its end gives. Assumes nothing.
 use mathlib.Core.List.{List}
-use mathlib.Core.Option.{Option}
 use Prim.Native.Nat.{ℕ}
 use Rattle.model.specs.declared.tokens.Word.{Word}
 use Rattle.model.specs.declared.tokens.Sign.{Sign}

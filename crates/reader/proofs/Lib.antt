@@ -1,3 +1,4 @@
+-- The lemmas that the proofs share.
 pub mod Table
 pub mod Skipping
 pub mod Fronts

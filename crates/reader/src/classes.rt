@@ -1,5 +1,4 @@
 //! The class of each byte.
-ghost use mathlib.Core.Path.{_≡_};
 ghost use lib.Dec.{T};
 ghost use Rattle.reader.specs.Classes.{Classed, every, right};
 

@@ -10,9 +10,7 @@ use Rattle.model.specs.declared.names.Name.{Name}
 use Rattle.model.specs.declared.names.NameKind.the-variants.{Procedure}
 use Rattle.model.specs.declared.told.Told.{Told}
 use Rattle.model.specs.declared.told.Told.the-variants.{Ended, Stopped, Running}
-use Rattle.host.specs.Meaning.{Meaning}
 use Rattle.model.specs.Numbers.{number, run-number, start-number, advance-number}
-use Rattle.model.specs.Tree.{Block}
 use Rattle.model.specs.Reading.{read}
 use Rattle.model.specs.Judge.{Verdict, accepted, refused, verdict, at-start}
 use Rattle.model.specs.Person.{Outcome, done, faulted, out-of-turns, by-hand}

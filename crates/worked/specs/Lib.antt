@@ -1,2 +1,3 @@
+-- The definitions that the contract cites.
 pub mod Facts
 pub mod Table

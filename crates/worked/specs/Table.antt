@@ -2,7 +2,7 @@
 use mathlib.Core.List.{List, [], _∷_, _++_}
 use Prim.Native.Nat.{ℕ}
 use lib.Chars.{codes}
-use lib.IntN.{ℤ, pos, negsuc}
+use lib.IntN.{pos, negsuc}
 use lib.ListN.{replicate}
 use Rattle.model.specs.Codes.{START, HLT, LDC, LDV, STR, ADD, RD, PRN, ALLOC, DALLOC}
 use Rattle.model.specs.Code.{entry, plain}

@@ -1,3 +1,4 @@
+-- The rest of the text comes to what the whole does; each token leaves fewer bytes.
 use Prim.Native.Nat.{ℕ, _+_, _≤_}
 use lib.ListN.{length}
 use Rattle.std.specs.declared.result.Result.{Result}
@@ -7,7 +8,6 @@ use Rattle.reader.specs.Streams.{stream-of, left-of}
 use Rattle.lpd.specs.Listing.{Listed}
 use Rattle.lpd.proofs.show_tokens.Given as given
 
--- what the rest of the text comes to is what the whole does
 abbrev pub Inv-loop-lexeme : given.InvT-loop-lexeme
 Inv-loop-lexeme g l =
     ((r : Result ℕ Fault) → Listed (l .count) (stream-of (l .reader)) r → Listed 0 (read (l .text)) r)

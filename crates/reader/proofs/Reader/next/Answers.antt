@@ -1,3 +1,4 @@
+-- What is read behind the gap is the first step of the stream.
 use mathlib.Core.Path.{refl, sym, ap, _∙_}
 use native.Mathlib.Omega.{arith}
 use lib.ListN.{length}

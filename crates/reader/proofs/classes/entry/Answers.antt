@@ -1,3 +1,4 @@
+-- A test that passes at every entry passes at this one.
 use borrow.Author.Needs.{needs}
 use native.Mathlib.Omega.{arith}
 use Prim.Native.Nat.{_<_}

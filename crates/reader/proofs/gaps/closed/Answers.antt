@@ -1,3 +1,4 @@
+-- A comment goes on over every byte but a closing brace.
 use mathlib.Core.Path.{refl, _∙_}
 use native.Mathlib.Omega.{arith}
 use Rattle.reader.proofs.Skipping.{comment-on, comment-end, comment-out}

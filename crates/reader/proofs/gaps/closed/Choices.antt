@@ -1,3 +1,4 @@
+-- From where the loop is, the comment ends where it does from its start.
 use Prim.Native.Nat.{ℕ}
 use mathlib.Core.Path.{_≡_}
 use lib.ListN.{drop}

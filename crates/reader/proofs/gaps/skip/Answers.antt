@@ -1,3 +1,4 @@
+-- A blank or a whole comment is gone over; any other byte ends the gap.
 use mathlib.Core.Path.{refl, _∙_}
 use native.Mathlib.Omega.{arith}
 use Rattle.reader.proofs.Skipping.{skip-blank, skip-brace, skip-stop, skip-out}

@@ -1,3 +1,4 @@
+-- From where the loop is, the gap ends where it does from its start.
 use Prim.Native.Nat.{_-_, _≤_}
 use mathlib.Core.Path.{_≡_}
 use lib.ListN.{length, drop}

@@ -1,3 +1,4 @@
+-- A run of name bytes is a name, a word, or too long.
 use mathlib.Core.Path.{ap, _∙_}
 use native.Mathlib.Nat.{sub-zero}
 use native.Mathlib.Omega.{arith}

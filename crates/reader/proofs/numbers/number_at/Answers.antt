@@ -1,3 +1,4 @@
+-- A run of digits is a number, or too large.
 use mathlib.Core.Path.{ap}
 use native.Mathlib.Nat.{sub-zero}
 use lib.ListN.{take}

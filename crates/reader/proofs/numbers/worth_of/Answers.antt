@@ -1,3 +1,4 @@
+-- One digit more is ten times the worth and the digit; more digits never make it less.
 use mathlib.Core.Path.{_≡_, sym, ap, _∙_}
 use Prim.Native.Nat.{_+_, _*_}
 use native.Mathlib.Omega.{arith}

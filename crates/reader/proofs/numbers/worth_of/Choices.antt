@@ -1,3 +1,4 @@
+-- The digits to come, behind the worth so far, are worth what all digits are.
 use Prim.Native.Nat.{_≤_}
 use mathlib.Core.Path.{_≡_}
 use lib.ListN.{drop}

@@ -1,3 +1,4 @@
+-- A run ends at the first byte that does not go on with it.
 use mathlib.Core.Path.{refl, sym, ap, _∙_}
 use native.Mathlib.Omega.{arith}
 use lib.ListN.{take}

@@ -1,3 +1,4 @@
+-- All bytes gone over are of the run.
 use Rattle.reader.specs.Classes.{passes}
 use Rattle.reader.proofs.Fronts.{Passed}
 use Rattle.reader.proofs.runs.run_len.Given as given

@@ -1,3 +1,4 @@
+-- The class of the first byte says what the token is.
 use mathlib.Core.Path.{_∙_}
 use Rattle.reader.proofs.Pieces.{sign-whole}
 use Rattle.reader.proofs.Table.{un-letter, un-digit}

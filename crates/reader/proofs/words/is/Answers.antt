@@ -1,3 +1,4 @@
+-- Equal slices hold the same bytes.
 use Rattle.std.proofs.shelf.Equals.{matches-decides}
 use Rattle.reader.proofs.Spelling.{tested}
 use Rattle.reader.proofs.words.is.Needs as need

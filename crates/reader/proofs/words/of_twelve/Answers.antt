@@ -1,3 +1,4 @@
+-- The one word of twelve bytes, or none.
 use lib.Chars.{codes}
 use Rattle.model.specs.declared.tokens.Word.the-variants.{Procedimento}
 use mathlib.Core.List.{[]}

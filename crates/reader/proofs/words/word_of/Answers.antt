@@ -1,3 +1,4 @@
+-- Among the words, only those of the name's length can be the name.
 use borrow.Author.Needs.{needs}
 use Rattle.reader.proofs.Spelling.{by-size, by-none}
 use Rattle.reader.proofs.words.word_of.Needs as need

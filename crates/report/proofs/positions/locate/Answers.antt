@@ -1,8 +1,9 @@
+-- One byte more is one line more, or one column.
 use borrow.Author.Needs.{needs}
-use mathlib.Core.Path.{_≡_, sym, ap, _∙_}
+use mathlib.Core.Path.{_≡_, ap, _∙_}
 use native.Mathlib.Omega.{arith}
 use lib.ListN.{take}
-use Prim.Native.Nat.{suc, _≤_}
+use Prim.Native.Nat.{suc}
 use Rattle.report.specs.Positions.{newlines, since-newline}
 use Rattle.report.proofs.Lines.{newlines-within, since-within, newline-here, no-newline-here, since-here, since-on}
 use Rattle.host.proofs.Fronts.{take-capped}

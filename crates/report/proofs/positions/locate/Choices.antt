@@ -1,6 +1,7 @@
+-- Line and column are those of the bytes gone over.
 use mathlib.Core.Path.{_≡_}
-use Prim.Native.Nat.{suc, _≤_}
-use lib.ListN.{take, length}
+use Prim.Native.Nat.{suc}
+use lib.ListN.{take}
 use Rattle.report.specs.Positions.{newlines, since-newline}
 use Rattle.report.proofs.positions.locate.Given as given
 
