@@ -1,4 +1,5 @@
 //! Runs the cases of `tables.cases`, tells each that differs, and how many agree.
+#![tactic(auto)]
 mod answers;
 mod codes;
 mod kinds;

@@ -1,4 +1,5 @@
 //! Commands that hold no other command: assignments, calls of procedures, `leia` and `escreva`; and conditions.
+#![tactic(auto)]
 mod conditions;
 mod leading;
 mod passing;

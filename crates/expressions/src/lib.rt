@@ -1,6 +1,7 @@
 //! Expressions, translated in one pass: four functions that call each other in a ring.
 //!
 //! Each judges what it reads as the definitions do, at the same tokens, and lays the entries of what it has read.
+#![tactic(auto)]
 mod operands;
 mod operators;
 mod ring;

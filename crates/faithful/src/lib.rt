@@ -1,6 +1,7 @@
 //! The table of an accepted script does what a person does who follows the script by hand.
 //!
 //! Nothing is computed here: each function carries a law of the definitions in its contract.
+#![tactic(auto)]
 ghost use Rattle.faithful.specs.Turns.{MoreTurns};
 ghost use Rattle.faithful.specs.Faithful.{Faithful, SameOrFull, EveryMoment, NeverUnsound, OneScript};
 

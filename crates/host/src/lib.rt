@@ -1,4 +1,6 @@
 //! What a machine takes values from and puts values to.
+#![tactic(auto)]
+
 ghost use Rattle.std.specs.Prelude.{◌≡◌};
 ghost use Rattle.host.specs.Meaning.{Meaning, take_answer, after_take, put_answer, after_put, Stays};
 

@@ -1,3 +1,4 @@
 //! The machine at work on short tables.
+#![tactic(auto)]
 #[cfg(test)]
 mod tests;

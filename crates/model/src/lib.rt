@@ -1,6 +1,8 @@
 //! The types that every crate shares, and in specs/ every definition of the subject.
 //!
 //! Data flows one way: text, tokens, judged script, table, run. The definitions stand in that order in specs/Lib.antt.
+#![tactic(auto)]
+
 pub mod codes;
 pub mod faults;
 pub mod names;

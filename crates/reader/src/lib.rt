@@ -1,4 +1,5 @@
 //! Bytes to tokens, one at a time, with no memory of its own.
+#![tactic(auto)]
 ghost use Rattle.std.specs.Prelude.{◌≤◌, length};
 
 mod classes;
