@@ -22,12 +22,12 @@ pub returns : goal.returns
 returns c =
     let h = c.args.self.now in
     let s = h.source.now in
-    let v = c.from-be-bytes-value.result in
-    let f : SFits w32 c.from-be-bytes-value.result = search rules in
+    let v = c.from_be_bytes-value.result in
+    let f : SFits w32 c.from_be_bytes-value.result = search rules in
     let vs = values_of (drop (5 * (h.taken + 1)) s) in
     let k : 5 * h.taken + 5 ≡ 5 * (h.taken + 1) = omega arith in
     let e : values_of (drop (5 * h.taken) s) ≡ v ∷ vs =
-    one_marked s (5 * h.taken) (omega arith) c.if-self-at-ne-MARK.false ∙ ap (λ x. x ∷ values_of (drop (5 * h.taken + 5) s)) (sym c.from-be-bytes-value.ensures) ∙ ap (λ j. v ∷ values_of (drop j s)) k in
+    one_marked s (5 * h.taken) (omega arith) c.if-self-at-ne-MARK.false ∙ ap (λ x. x ∷ values_of (drop (5 * h.taken + 5) s)) (sym c.from_be_bytes-value.ensures) ∙ ap (λ j. v ∷ values_of (drop j s)) k in
     record {
       answer = rw to_z-of_z (first_where_one_waits (tape_meaning h) v vs e);
       after = rest_where_one_waits (tape_meaning h) v vs e;
