@@ -32,7 +32,7 @@ def code_parts(path, text):
     if path.endswith(".antt"):
         pattern = re.compile(r"(--[^\n]*)|(\"(?:[^\"\\\n]|\\.)*\")")
     else:
-        pattern = re.compile(r"(//[^\n]*)|(b?\"(?:[^\"\\]|\\.)*\")")
+        pattern = re.compile(r"(//[^\n]*)|(b?\"(?:[^\"\\]|\\.)*\"|b?'(?:[^'\\\n]|\\.)')")
     at = 0
     for m in pattern.finditer(text):
         yield text[at : m.start()], True

@@ -1,5 +1,6 @@
 //! Bytes to tokens, one at a time, with no memory of its own.
 #![tactic(auto)]
+
 ghost use Rattle.std.specs.Prelude.{◌≤◌, length};
 
 mod classes;

@@ -27,7 +27,7 @@ fn short_sign(b: u8) -> Option<Sign>
 {
     match b {
         b'+' => Some(Sign::Plus),
-        b'_' => Some(Sign::Minus),
+        b'-' => Some(Sign::Minus),
         b'*' => Some(Sign::Times),
         b'=' => Some(Sign::Equal),
         b'<' => Some(Sign::Less),

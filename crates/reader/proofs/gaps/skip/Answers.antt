@@ -21,11 +21,11 @@ returns-in-None c =
     let is = c.in-Brace.ensures in
     (c.loop-at.invariant.0 ∙ skip_brace c.args.text.now c.loop-at.at (omega arith) is.blanks is.braces ∙ c.in-None.ensures.closes c.loop-at.at, refl)
 
-pub returns-in-default : goal.returns-in-default
-returns-in-default c =
-    let is = c.class-of.ensures in
-    let blanks = is.blanks ∙ un_blank c.class-of.result c.in-default.not-Blank in
-    let braces = is.braces ∙ un_brace c.class-of.result c.in-default.not-Brace in
+pub returns-in_default : goal.returns-in_default
+returns-in_default c =
+    let is = c.class_of.ensures in
+    let blanks = is.blanks ∙ un_blank c.class_of.result c.in_default.not-Blank in
+    let braces = is.braces ∙ un_brace c.class_of.result c.in_default.not-Brace in
     (c.loop-at.invariant.0 ∙ skip_stop c.args.text.now c.loop-at.at c.loop-at-test.true blanks braces, omega arith, omega arith)
 
 pub returns : goal.returns

@@ -7,8 +7,8 @@ use Rattle.reader.proofs.numbers.number_at.Goals as goal
 pub returns-in-Some : goal.returns-in-Some
 returns-in-Some c =
     let xs = c.args.rest.now in
-    let n = c.run-len-len.result in
-    let run = c.run-len-len.ensures in
+    let n = c.run_len-len.result in
+    let run = c.run_len-len.ensures in
     let cut = ap (λ k. take k xs) (sub-zero n) in
     let told = c.in-Some.ensures in
     record {
@@ -20,8 +20,8 @@ returns-in-Some c =
 pub returns-in-None : goal.returns-in-None
 returns-in-None c =
     let xs = c.args.rest.now in
-    let n = c.run-len-len.result in
-    let run = c.run-len-len.ensures in
+    let n = c.run_len-len.result in
+    let run = c.run_len-len.ensures in
     record {
       is = number_big xs n c.requires.some c.requires.unlike c.requires.begins run.within run.longest _ (ap (λ k. take k xs) (sub-zero n)) c.in-None.ensures;
       fits = tt;

@@ -9,12 +9,12 @@ pub loop-n-init : goal.loop-n-init
 loop-n-init c = refl
 
 pub loop-n-preserved : goal.loop-n-preserved
-loop-n-preserved c = front_more (passes c.args.run) c.args.rest.now c.loop-n.n (omega arith) c.loop-n.invariant (run_classed c.args.run _ c.class-of.result c.class-of.ensures ∙ sym c.if-not-goes-on.ensures)
+loop-n-preserved c = front_more (passes c.args.run) c.args.rest.now c.loop-n.n (omega arith) c.loop-n.invariant (run_classed c.args.run _ c.class_of.result c.class_of.ensures ∙ sym c.if-not-goes_on.ensures)
 
-pub returns-then-not-goes-on : goal.returns-then-not-goes-on
-returns-then-not-goes-on c = record {
+pub returns-then-not-goes_on : goal.returns-then-not-goes_on
+returns-then-not-goes_on c = record {
   within = omega arith;
-  longest = front_stop (passes c.args.run) c.args.rest.now c.loop-n.n (omega arith) c.loop-n.invariant (run_classed c.args.run _ c.class-of.result c.class-of.ensures ∙ sym c.if-not-goes-on.ensures);
+  longest = front_stop (passes c.args.run) c.args.rest.now c.loop-n.n (omega arith) c.loop-n.invariant (run_classed c.args.run _ c.class_of.result c.class_of.ensures ∙ sym c.if-not-goes_on.ensures);
 }
 
 pub returns : goal.returns
