@@ -6,11 +6,11 @@ use Rattle.host.proofs.Fronts.{take_capped}
 use Rattle.report.proofs.positions.locate.Goals as goal
 use Rattle.report.proofs.positions.locate.Goals.{then-text-i-eq10, else-text-i-eq10}
 
-pub overflow-add-line : goal.overflow-add-line
-overflow-add-line c = let few = newlines_within c.args.text.now c.loop-i.i in let is = c.loop-i.invariant.0 in search rules
+pub overflow_add-line : goal.overflow_add-line
+overflow_add-line c = let few = newlines_within c.args.text.now c.loop-i.i in let is = c.loop-i.invariant.0 in search rules
 
-pub overflow-add-column : goal.overflow-add-column
-overflow-add-column c = let few = since_within c.args.text.now c.loop-i.i in let is = c.loop-i.invariant.1 in search rules
+pub overflow_add-column : goal.overflow_add-column
+overflow_add-column c = let few = since_within c.args.text.now c.loop-i.i in let is = c.loop-i.invariant.1 in search rules
 
 pub loop-i-preserved : goal.loop-i-preserved
 loop-i-preserved c =
