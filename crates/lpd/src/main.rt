@@ -1,5 +1,6 @@
 //! Lists the tokens of `script.lpd`, each with its place, or tells why the text cannot be read.
 #![tactic(auto)]
+
 ghost use Rattle.std.specs.Prelude.{IfOk};
 ghost use Rattle.model.specs.Reading.{read};
 ghost use Rattle.lpd.specs.Listing.{Listed};

@@ -1,4 +1,5 @@
 //! The reader on texts that are easily misread.
 #![tactic(auto)]
+
 #[cfg(test)]
 mod tests;

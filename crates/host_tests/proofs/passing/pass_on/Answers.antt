@@ -4,5 +4,5 @@ use Rattle.host_tests.proofs.passing.pass_on.Goals as goal
 
 pub returns : goal.returns
 returns c =
-    let did = c.pass-many.ensures in
+    let did = c.pass_many.ensures in
     record { after = did.after; stays = did.stays c.args.host.now (tape_since_itself c.args.host.now) }
