@@ -21,11 +21,11 @@ fn list_host_refuses_when_full(rt: HostRuntime) {
     let mut sink = [9, 9, 9];
     let mut host = ListHost::new(&[], &mut sink);
     assert_eq!(rt; host.put(5), Ok(()));
-    assert_eq!(rt; host.written(), &[5]);
+    assert_eq!(rt; host.written(), [5].as_slice());
     assert_eq!(rt; host.put(-6), Ok(()));
     assert_eq!(rt; host.put(7), Ok(()));
     assert_eq!(rt; host.put(8), Err(PutRefusal::Full));
-    assert_eq!(rt; host.written(), &[5, -6, 7]);
+    assert_eq!(rt; host.written(), [5, -6, 7].as_slice());
 }
 
 #[test]
@@ -45,7 +45,10 @@ fn tape_host_writes_values(rt: HostRuntime) {
     let mut host = TapeHost::new(&[], &mut sink);
     assert_eq!(rt; host.put(41), Ok(()));
     assert_eq!(rt; host.put(-1), Ok(()));
-    assert_eq!(rt; host.written(), &[86, 0, 0, 0, 41, 86, 255, 255, 255, 255]);
+    assert_eq!(rt;
+        host.written(),
+        [86, 0, 0, 0, 41, 86, 255, 255, 255, 255].as_slice()
+    );
 }
 
 #[test]
@@ -74,7 +77,7 @@ fn nine_bytes_have_room_for_one_value(rt: HostRuntime) {
     let mut host = TapeHost::new(&[], &mut sink);
     assert_eq!(rt; host.put(-2), Ok(()));
     assert_eq!(rt; host.put(3), Err(PutRefusal::Full));
-    assert_eq!(rt; host.written(), &[86, 255, 255, 255, 254]);
+    assert_eq!(rt; host.written(), [86, 255, 255, 255, 254].as_slice());
     assert_eq!(rt; sink, [86, 255, 255, 255, 254, 6, 7, 8, 9]);
 }
 
@@ -112,5 +115,5 @@ fn goes_on_with_a_tape_in_use(rt: HostRuntime) {
     let mut host = TapeHost::new(&source, &mut sink);
     assert_eq!(rt; host.take(), Some(5));
     pass_on(&mut host, 1);
-    assert_eq!(rt; host.written(), &[86, 0, 0, 0, 6]);
+    assert_eq!(rt; host.written(), [86, 0, 0, 0, 6].as_slice());
 }

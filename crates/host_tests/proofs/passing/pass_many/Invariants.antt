@@ -6,5 +6,5 @@ use Rattle.host_tests.proofs.passing.pass_many.Given as goal
 
 abbrev pub invariant-loop-i : goal.invariant-loop-i
 invariant-loop-i g l =
-    (g.H.Host.meaning l.host ≡ passed_times l.-i (g.H.Host.meaning l.initial.host))
+    (g.H.Host.meaning l.host ≡ passed_times l._i (g.H.Host.meaning l.initial.host))
     × Stays g.H.Host.since l.initial.host l.host
