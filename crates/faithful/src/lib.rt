@@ -2,6 +2,7 @@
 //!
 //! Nothing is computed here: each function carries a law of the definitions in its contract.
 #![tactic(auto)]
+
 ghost use Rattle.faithful.specs.Turns.{MoreTurns};
 ghost use Rattle.faithful.specs.Faithful.{Faithful, SameOrFull, EveryMoment, NeverUnsound, OneScript};
 

@@ -59,7 +59,7 @@ runner_next table cells text in_use budget n u f i now0 run g j m now (Running k
       };
       is = ap (more_told budget (Running k)) g.is;
       same_text = g.same_text;
-      same_cells = g.same-cells;
+      same_cells = g.same_cells;
       path =
           subst (λ z. Steps E (budget + g.s.budgets) (Machine.started u) g.s.host
           (record { memory = z; fill = m.fill; at = m.at }) now) (sym e2)
@@ -126,7 +126,7 @@ module _ (w0 : World) (in_use : ℕ) (h : History) (k c budget : ℕ) (inv : Bet
               steps = all;
               machine = a.machine;
               path =
-                  subst (λ y. Steps E all (Machine.started y) s.host a.machine a.host) g.same-cells
+                  subst (λ y. Steps E all (Machine.started y) s.host a.machine a.host) g.same_cells
                   path;
               told = (at, calm E a.machine a.host s.told g.running);
               so_far =

@@ -2,6 +2,7 @@
 //!
 //! Nothing is computed here: each function carries a law of the definitions in its contract.
 #![tactic(auto)]
+
 ghost use Rattle.model.specs.Promise.{Promise};
 ghost use Rattle.model.specs.Enough.{Enough};
 ghost use Rattle.promise.specs.Carried.{Carried};

@@ -1,5 +1,6 @@
 //! Laws of the machine's runs, above the definition of one step after the other.
 #![tactic(auto)]
+
 ghost use Rattle.runs.specs.Runs.{ToldExactly, Joined, PassedOn};
 
 /// What a run tells and leaves is what its steps came to. It tells that it is running exactly where as many steps

@@ -1,5 +1,6 @@
 //! The worked examples, as facts about the definitions.
 #![tactic(auto)]
+
 ghost use Rattle.model.specs.Promise.{Each};
 ghost use Rattle.worked.specs.Facts.{Holds};
 ghost use Rattle.worked.specs.Table.{examples};
