@@ -1,5 +1,6 @@
 //! The judge and the grammar: laws about the definitions of `model`.
 #![tactic(auto)]
+
 ghost use Rattle.model.specs.Acceptance.{Acceptance};
 ghost use Rattle.grammar.specs.Trees.{CellsSuffice, OneTree, RoomSuffices};
 ghost use Rattle.grammar.specs.Operators.{TokensTold, TypesTold};

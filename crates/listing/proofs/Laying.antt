@@ -57,7 +57,7 @@ module _ (l : Listing) (at : ℕ) (e : Entry) (q : Pile Entry) (h : l.over ≡ f
   patched (Err d) y =
       let s : length (memory_of after) ≡ length (memory_of l) = ap (λ p. length (memory p)) y.1 in (
         λ es x. fitting after _ h (ap front y.1 ∙ ((x.fits h).0 ∙ sym (set_past es at e (omega (arith, y.0.0, counted l es x h))))) (omega (arith, length-set es at e, (x.fits h).1, s)),
-        (ap (λ p. p.cells.name) y.1, s, λ t. t),
+        (ap (λ p. p.cells.ghost_name) y.1, s, λ t. t),
       )
 
 -- a jump that gets its target

@@ -3,6 +3,7 @@
 //! A table that is too short does not stop a translation: the text is judged to its end first. So an entry that does
 //! not fit is only noted, and from then on nothing is written.
 #![tactic(auto)]
+
 ghost use Rattle.std.specs.Prelude.{◌≡◌, ◌≤◌, List, [], ◌∷◌, ◌++◌, length, slice_set};
 ghost use Rattle.listing.specs.Listings.{memory_of, SameTable, Lists, Here, Stands, jump_to, Whole};
 ghost use Rattle.model.specs.Code.{entry};

@@ -1,5 +1,6 @@
 //! The machine: one instruction of a table, and a run with a budget, over any host.
 #![tactic(auto)]
+
 mod cells;
 mod exchange;
 mod frames;

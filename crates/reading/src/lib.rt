@@ -1,5 +1,6 @@
 //! Reading: laws about the definition of `model`, in terms of gaps, spellings and longest pieces.
 #![tactic(auto)]
+
 ghost use Rattle.reading.specs.Laws.{ExactlyByTheRules, NothingLost, EveryTokenIsLongest};
 ghost use Rattle.reading.specs.Laws.{ReservedExactlyWhenListed, OneToken, SpelledLooks};
 ghost use Rattle.reading.specs.Examples.{ExamplesStand};

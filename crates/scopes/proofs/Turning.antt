@@ -21,7 +21,7 @@ on_top xs x = reverse-append xs (x ∷ [])
 pub laid : (p q : Pile Name) (n : Name) (r : Result (Unit {0}) Refusal) → MatchResult r (λ _. Laid p n q) (λ e. NoRoom p e q) →
     (length (reverse (front p)) < length (memory p) → reverse (front q) ≡ n ∷ reverse (front p)) × Kept p q
 laid p q n (Ok u) y = (λ _. ap reverse y.3 ∙ on_top (front p) n, (ap length y.2 ∙ length-set (memory p) (fill_of p) n, y.4))
-laid p q n (Err e) y = (λ h. absurd (omega (arith, as_filled p, y.0)), (ap (λ m. length (memory m)) y.2, ap (λ m. m.cells.name) y.2))
+laid p q n (Err e) y = (λ h. absurd (omega (arith, as_filled p, y.0)), (ap (λ m. length (memory m)) y.2, ap (λ m. m.cells.ghost_name) y.2))
 
 -- the top, and what lies below it
 same_top : (x n : Name) (xs ns : List Name) → x ∷ xs ≡ n ∷ ns → (x ≡ n) × (xs ≡ ns)
@@ -44,7 +44,7 @@ nothing_on_top p n ns z e = omega (arith, as_filled p, ap length e)
 pub cut_back : (p q : Pile Name) (n : ℕ) (r : Result (Unit {0}) Refusal) → MatchResult r (λ _. Shortened p n q) (λ e. TooLow p n e q) →
     (n ≤ length (reverse (front p)) → reverse (front q) ≡ reverse (take n (front p))) × Kept p q
 cut_back p q n (Ok u) y = (λ _. ap reverse y.2, (ap length y.3.0, y.3.1))
-cut_back p q n (Err e) y = (λ h. absurd (omega (arith, as_filled p, y.0)), (ap (λ m. length (memory m)) y.2, ap (λ m. m.cells.name) y.2))
+cut_back p q n (Err e) y = (λ h. absurd (omega (arith, as_filled p, y.0)), (ap (λ m. length (memory m)) y.2, ap (λ m. m.cells.ghost_name) y.2))
 
 pub retyped : (p q : Pile Name) (at : ℕ) (x : Name) (y : Ty) (r : Result (Unit {0}) Refusal) → Stands p at x →
     MatchResult r (λ _. Changed p at (with_type y x) q) (λ e. Unfilled p at e × (q ≡ p)) →
@@ -55,7 +55,7 @@ retyped p q at x y (Ok u) s c = (
       c.3 ∙ ap (λ xs. set xs at (with_type y x)) e ∙ set_at before n after (with_type y x) at l ∙ ap (λ a. before ++ (with_type y a ∷ after)) g,
   (ap length c.2 ∙ length-set (memory p) at (with_type y x), c.4),
 )
-retyped p q at x y (Err d) s c = (λ before after n e l. absurd (omega (arith, s.0, c.0.0)), (ap (λ m. length (memory m)) c.1, ap (λ m. m.cells.name) c.1))
+retyped p q at x y (Err d) s c = (λ before after n e l. absurd (omega (arith, s.0, c.0.0)), (ap (λ m. length (memory m)) c.1, ap (λ m. m.cells.ghost_name) c.1))
 
 pub nothing_there : (p : Pile Name) (at : ℕ) (before after : List Name) (n : Name) → fill_of p ≤ at → front p ≡ before ++ (n ∷ after) → length before ≡ at → ⊥
 nothing_there p at before after n h e l = omega (arith, length-take p.fill (memory p), ap length e, length-append before (n ∷ after))

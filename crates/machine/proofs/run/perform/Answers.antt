@@ -23,7 +23,7 @@ returns-in-Both g c =
     }
 
 pub returns-in-Inv : goal.returns-in-Inv
-returns-in-Inv g c = let does = c.change-sign.ensures c.args.e.now in search rules
+returns-in-Inv g c = let does = c.change_sign.ensures c.args.e.now in search rules
 
 pub returns-in-Neg : goal.returns-in-Neg
 returns-in-Neg g c = let does = c.negate.ensures c.args.e.now in search rules
@@ -35,7 +35,7 @@ pub returns-in-Prn : goal.returns-in-Prn
 returns-in-Prn g c = let does = c.print.ensures.does c.args.e.now in search rules
 
 pub returns-in-Return : goal.returns-in-Return
-returns-in-Return g c = let does = c.go-back.ensures c.args.at c.args.e.now in search rules
+returns-in-Return g c = let does = c.go_back.ensures c.args.at c.args.e.now in search rules
 
 pub returns-in-Jmp : goal.returns-in-Jmp
 returns-in-Jmp g c = let does = c.jump.ensures c.args.cells.now c.args.at in search rules

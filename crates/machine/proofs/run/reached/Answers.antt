@@ -3,8 +3,8 @@ use Rattle.std.proofs.Common.{sym, refl, arith}
 use Rattle.std.proofs.lemmas.List.{length-take-le, take_all}
 use Rattle.machine.proofs.run.reached.Goals as goal
 
-pub slice-bounds-result-end : goal.slice-bounds-result-end
-slice-bounds-result-end c = sym (length-take-le 2147483647 c.args.table.now (omega arith))
+pub slice_bounds-result-end : goal.slice_bounds-result-end
+slice_bounds-result-end c = sym (length-take-le 2147483647 c.args.table.now (omega arith))
 
 pub returns-else-table-gt-REACH : goal.returns-else-table-gt-REACH
 returns-else-table-gt-REACH c = record { all = sym (take_all 2147483647 c.args.table.now (omega arith)); short = omega arith }

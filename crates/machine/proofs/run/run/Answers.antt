@@ -20,7 +20,7 @@ returns-in-Err g c =
     let l = c.loop-steps in
     let s = c.go.new in
     let told =
-    turn_stops (reachable c.args.table.now) _ c.args.budget l.steps l.cells s.cells l.at (g.H.Host.meaning l.host) (g.H.Host.meaning s.host) c.in-Err.fault c.place-of-place.result c.loop-steps-test.true c.reached-code.ensures.all c.place-of-place.ensures c.in-Err.ensures.does in
+    turn_stops (reachable c.args.table.now) _ c.args.budget l.steps l.cells s.cells l.at (g.H.Host.meaning l.host) (g.H.Host.meaning s.host) c.in-Err.fault c.place_of-place.result c.loop-steps-test.true c.reached-code.ensures.all c.place_of-place.ensures c.in-Err.ensures.does in
     record {
       does = (sym l.invariant.0 ∙ told.0, told.1 ∙ l.invariant.1);
       stays = λ h since. c.go.ensures.stays h (l.invariant.2 h since);
