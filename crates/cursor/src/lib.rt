@@ -3,6 +3,7 @@
 //! The reader's fault is told as soon as the token before it is taken. So the token ahead is always a token or the
 //! end of the text.
 #![tactic(auto)]
+
 mod ahead;
 mod kinds;
 
