@@ -3,6 +3,7 @@
 //! A name finds the newest record that is spelled like it. The names of a block lie above its mark, and go when the
 //! block is closed.
 #![tactic(auto)]
+
 mod finding;
 mod laying;
 pub mod names;

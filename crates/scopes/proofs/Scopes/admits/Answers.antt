@@ -5,10 +5,10 @@ use Rattle.pile.specs.Piles.{front}
 use Rattle.scopes.proofs.Counting.{twice, full, many, admitted}
 use Rattle.scopes.proofs.Scopes.admits.Goals as goal
 
-pub returns-then-is-some : goal.returns-then-is-some
-returns-then-is-some c =
+pub returns-then-is_some : goal.returns-then-is_some
+returns-then-is_some c =
     record {
-      declares = λ over o os x e j. twice _ _ over _ _ o os (front c.args.self.now.records) _ x e j (c.if-is-some.ensures ∙ ap is_some c.newest.ensures) ∙ ap refuses (sym c.from.ensures.0);
+      declares = λ over o os x e j. twice _ _ over _ _ o os (front c.args.self.now.records) _ x e j (c.if-is_some.ensures ∙ ap is_some c.newest.ensures) ∙ ap refuses (sym c.from.ensures.0);
       at = c.from.ensures.1;
     }
 
@@ -18,7 +18,7 @@ returns-then-fill-room c =
     let l = length-take p.fill p.cells.now in
     record {
       declares = λ over o os x e j.
-          full _ _ over _ _ o os (front p) _ x e j (c.if-is-some.ensures ∙ ap is_some c.newest.ensures) (omega (arith, l, c.fill.ensures, c.room.ensures))
+          full _ _ over _ _ o os (front p) _ x e j (c.if-is_some.ensures ∙ ap is_some c.newest.ensures) (omega (arith, l, c.fill.ensures, c.room.ensures))
           ∙ ap refuses (sym c.from-then-fill-room.ensures.0);
       at = c.from-then-fill-room.ensures.1;
     }
@@ -29,7 +29,7 @@ returns-then-cell-gt-CELLS c =
     let l = length-take p.fill p.cells.now in
     record {
       declares = λ over o os x e j.
-          many _ _ over _ _ o os (front p) _ x e j (c.if-is-some.ensures ∙ ap is_some c.newest.ensures) (omega (arith, l, c.fill.ensures, c.room.ensures)) c.if-cell-gt-CELLS.true
+          many _ _ over _ _ o os (front p) _ x e j (c.if-is_some.ensures ∙ ap is_some c.newest.ensures) (omega (arith, l, c.fill.ensures, c.room.ensures)) c.if-cell-gt-CELLS.true
           ∙ ap refuses (sym c.from-then-cell-gt-CELLS.ensures.0);
       at = c.from-then-cell-gt-CELLS.ensures.1;
     }
@@ -40,6 +40,6 @@ returns c =
     let l = length-take p.fill p.cells.now in
     record {
       declares = λ over o os x e j.
-          admitted _ _ over _ _ o os (front p) _ x e j (c.if-is-some.ensures ∙ ap is_some c.newest.ensures) (omega (arith, l, c.fill.ensures, c.room.ensures)) c.if-cell-gt-CELLS.false;
+          admitted _ _ over _ _ o os (front p) _ x e j (c.if-is_some.ensures ∙ ap is_some c.newest.ensures) (omega (arith, l, c.fill.ensures, c.room.ensures)) c.if-cell-gt-CELLS.false;
       at = tt;
     }

@@ -22,9 +22,9 @@ loop-at-preserved c =
     let from = c.args.from in
     let at = c.loop-at.at in
     let h : at < length xs = omega (arith, c.loop-at-test.true, c.count-at-end.ensures, as_filled p, length-take p.fill p.cells.now) in
-    let k = c.give-one.ensures.keeps in
+    let k = c.give_one.ensures.keeps in
     let i = c.loop-at.invariant.1 in (
-      c.give-one.ensures.gives (behind g xs from at c.loop-at.auto.at h) (drop (at + 1) xs) (get_or xs at no_name) (c.loop-at.invariant.0 ∙ split g xs from at c.loop-at.auto.at h) (behind_length g xs from at c.loop-at.auto.at h)
+      c.give_one.ensures.gives (behind g xs from at c.loop-at.auto.at h) (drop (at + 1) xs) (get_or xs at no_name) (c.loop-at.invariant.0 ∙ split g xs from at c.loop-at.auto.at h) (behind_length g xs from at c.loop-at.auto.at h)
           ∙ one_further g xs from at c.loop-at.auto.at h,
       (k.0 ∙ i.0, k.1 ∙ i.1, k.2 ∙ i.2),
     )

@@ -14,13 +14,13 @@ use Rattle.scopes.proofs.Scopes.lay_procedure.Goals as goal
 pub returns : goal.returns
 returns c =
     let s = c.args.self.now in
-    let n : Name = record { place = c.args.place; length = c.length-of.result; kind = Procedure; cell = 0; entry = c.args.entry; inside = true } in
+    let n : Name = record { place = c.args.place; length = c.length_of.result; kind = Procedure; cell = 0; entry = c.args.entry; inside = true } in
     record {
       opens = λ over o os p e x sp room calm entry.
           let laid = c.lay.ensures.lays (omega (arith, counted (text_of s) over (o ∷ os) (records_of s) none 0 x)) in
           let d = a_procedure o.scope.count in
           carried (text_of s) _ over none 0 (entered o p procedure 0 ∷ named o c.args.name.now d e ∷ os) _ _ c.lay.ensures.keeps.0 laid (
-          routine_opens (text_of s) over o os (records_of s) c.args.name.now n d p procedure 0 e x (as_spelled (text_of s) _ _ _ sp c.length-of.ensures) calm refl (
+          routine_opens (text_of s) over o os (records_of s) c.args.name.now n d p procedure 0 e x (as_spelled (text_of s) _ _ _ sp c.length_of.ensures) calm refl (
           procedure_stands (text_of s) over n o.scope.first o.scope.count e (o.scope.first + o.scope.cells) o.begins x.begun refl entry));
       keeps = c.lay.ensures.keeps;
     }

@@ -13,6 +13,6 @@ returns c =
     record {
       waits = λ over o os x sp room cell.
           let laid = c.lay.ensures.lays (omega (arith, counted (text_of s) over (o ∷ os) (records_of s) none 0 x)) in
-          carried (text_of s) _ over none 0 (waited o c.args.name.now ∷ os) _ _ c.lay.ensures.keeps.0 laid (one_waits (text_of s) over o os (records_of s) c.args.name.now _ x (as_spelled (text_of s) _ _ _ sp c.length-of.ensures) cell);
+          carried (text_of s) _ over none 0 (waited o c.args.name.now ∷ os) _ _ c.lay.ensures.keeps.0 laid (one_waits (text_of s) over o os (records_of s) c.args.name.now _ x (as_spelled (text_of s) _ _ _ sp c.length_of.ensures) cell);
       keeps = c.lay.ensures.keeps;
     }

@@ -11,17 +11,17 @@ loop-at-init c =
     let e = length-take p.fill p.cells.now in
     (omega (arith, c.fill-at.ensures), ap (λ ys. newest c.args.self.now.text.now c.args.name.now (reverse (drop c.args.from ys))) (sym (all_of_it (front p) c.fill-at.result (e ∙ sym c.fill-at.ensures))))
 
-pub returns-then-is-spelled : goal.returns-then-is-spelled
-returns-then-is-spelled c =
+pub returns-then-is_spelled : goal.returns-then-is_spelled
+returns-then-is_spelled c =
     let p = c.args.self.now.records in
     let e = length-take p.fill p.cells.now in
-    sym (c.loop-at.invariant.1 ∙ found_here _ _ (front p) c.args.from c.loop-at.at c.in-Ok.known c.loop-at-test.true (omega (arith, e, c.in-Ok.ensures.0)) c.in-Ok.ensures.1 c.if-is-spelled.ensures)
+    sym (c.loop-at.invariant.1 ∙ found_here _ _ (front p) c.args.from c.loop-at.at c.in-Ok.known c.loop-at-test.true (omega (arith, e, c.in-Ok.ensures.0)) c.in-Ok.ensures.1 c.if-is_spelled.ensures)
 
 pub loop-at-preserved : goal.loop-at-preserved
 loop-at-preserved c =
     let p = c.args.self.now.records in
     let e = length-take p.fill p.cells.now in
-    (omega (arith, c.loop-at.invariant.0), c.loop-at.invariant.1 ∙ found_below _ _ (front p) c.args.from c.loop-at.at c.in-Ok.known c.loop-at-test.true (omega (arith, e, c.in-Ok.ensures.0)) c.in-Ok.ensures.1 c.if-is-spelled.ensures)
+    (omega (arith, c.loop-at.invariant.0), c.loop-at.invariant.1 ∙ found_below _ _ (front p) c.args.from c.loop-at.at c.in-Ok.known c.loop-at-test.true (omega (arith, e, c.in-Ok.ensures.0)) c.in-Ok.ensures.1 c.if-is_spelled.ensures)
 
 pub returns : goal.returns
 returns c = sym (c.loop-at.invariant.1 ∙ nothing_left _ _ (front c.args.self.now.records) c.args.from c.loop-at.at c.loop-at-test.false)
