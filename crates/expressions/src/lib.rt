@@ -2,6 +2,7 @@
 //!
 //! Each judges what it reads as the definitions do, at the same tokens, and lays the entries of what it has read.
 #![tactic(auto)]
+
 mod operands;
 mod operators;
 mod ring;

@@ -24,7 +24,7 @@ use scopes::Scopes;
 const DEEPEST: usize = 64;
 
 /// An expression, where `depth` levels are open around it.
-#[cycle(bracket_denial_enclosed_expression_factor_lead_minus_term_plus_term_simple_term)]
+#[cycle(descent)]
 pub fn expression<'a>(
     cursor: &mut Cursor<'a>,
     names: &Scopes<'a>,
@@ -48,7 +48,7 @@ pub fn expression<'a>(
 }
 
 // Terms with `+`, `-` or `ou` between them.
-#[cycle(bracket_denial_enclosed_expression_factor_lead_minus_term_plus_term_simple_term)]
+#[cycle(descent)]
 fn simple<'a>(
     cursor: &mut Cursor<'a>,
     names: &Scopes<'a>,
@@ -72,7 +72,7 @@ fn simple<'a>(
 }
 
 // The first term of a simple expression, with its sign.
-#[cycle(bracket_denial_enclosed_expression_factor_lead_minus_term_plus_term_simple_term)]
+#[cycle(descent)]
 fn lead<'a>(
     cursor: &mut Cursor<'a>,
     names: &Scopes<'a>,
@@ -93,7 +93,7 @@ fn lead<'a>(
 }
 
 // A first term behind `+`.
-#[cycle(bracket_denial_enclosed_expression_factor_lead_minus_term_plus_term_simple_term)]
+#[cycle(descent)]
 fn plus_term<'a>(
     cursor: &mut Cursor<'a>,
     names: &Scopes<'a>,
@@ -114,7 +114,7 @@ fn plus_term<'a>(
 }
 
 // A first term behind `-`.
-#[cycle(bracket_denial_enclosed_expression_factor_lead_minus_term_plus_term_simple_term)]
+#[cycle(descent)]
 fn minus_term<'a>(
     cursor: &mut Cursor<'a>,
     names: &Scopes<'a>,
@@ -137,7 +137,7 @@ fn minus_term<'a>(
 }
 
 // Factors with `*`, `div` or `e` between them.
-#[cycle(bracket_denial_enclosed_expression_factor_lead_minus_term_plus_term_simple_term)]
+#[cycle(descent)]
 fn term<'a>(
     cursor: &mut Cursor<'a>,
     names: &Scopes<'a>,
@@ -160,7 +160,7 @@ fn term<'a>(
     }
 }
 
-#[cycle(bracket_denial_enclosed_expression_factor_lead_minus_term_plus_term_simple_term)]
+#[cycle(descent)]
 fn factor<'a>(
     cursor: &mut Cursor<'a>,
     names: &Scopes<'a>,
@@ -183,7 +183,7 @@ fn factor<'a>(
 }
 
 // A factor that begins with a word or a sign.
-#[cycle(bracket_denial_enclosed_expression_factor_lead_minus_term_plus_term_simple_term)]
+#[cycle(descent)]
 fn enclosed<'a>(
     cursor: &mut Cursor<'a>,
     names: &Scopes<'a>,
@@ -211,7 +211,7 @@ fn enclosed<'a>(
 }
 
 // An expression in brackets.
-#[cycle(bracket_denial_enclosed_expression_factor_lead_minus_term_plus_term_simple_term)]
+#[cycle(descent)]
 fn bracket<'a>(
     cursor: &mut Cursor<'a>,
     names: &Scopes<'a>,
@@ -237,7 +237,7 @@ fn bracket<'a>(
 }
 
 // A factor behind `nao`.
-#[cycle(bracket_denial_enclosed_expression_factor_lead_minus_term_plus_term_simple_term)]
+#[cycle(descent)]
 fn denial<'a>(
     cursor: &mut Cursor<'a>,
     names: &Scopes<'a>,

@@ -8,7 +8,7 @@ use Rattle.cursor.specs.Rests.{left, text_of, Fine}
 use Rattle.listing.specs.Listings.{SameTable}
 use Rattle.expressions.specs.Parts.{simple, term, growing}
 use Rattle.expressions.specs.Says.{here, Stands, Reached}
-use Rattle.expressions.proofs.ring.+bracket_denial_enclosed_expression_factor_lead_minus_term_plus_term_simple_term.Given as goal
+use Rattle.expressions.proofs.ring.+descent.Given as goal
 
 abbrev pub decreases-expression : goal.decreases-expression
 decreases-expression l = 9 * left l.cursor.now + 8
@@ -19,11 +19,11 @@ decreases-simple l = 9 * left l.cursor.now + 7
 abbrev pub decreases-lead : goal.decreases-lead
 decreases-lead l = 9 * left l.cursor.now + 6
 
-abbrev pub decreases-plus-term : goal.decreases-plus-term
-decreases-plus-term l = 9 * left l.cursor.now + 5
+abbrev pub decreases-plus_term : goal.decreases-plus_term
+decreases-plus_term l = 9 * left l.cursor.now + 5
 
-abbrev pub decreases-minus-term : goal.decreases-minus-term
-decreases-minus-term l = 9 * left l.cursor.now + 5
+abbrev pub decreases-minus_term : goal.decreases-minus_term
+decreases-minus_term l = 9 * left l.cursor.now + 5
 
 abbrev pub decreases-term : goal.decreases-term
 decreases-term l = 9 * left l.cursor.now + 4
