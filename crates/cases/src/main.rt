@@ -1,5 +1,6 @@
 //! Runs the cases of `tables.cases`, tells each that differs, and how many agree.
 #![tactic(auto)]
+
 mod answers;
 mod codes;
 mod kinds;

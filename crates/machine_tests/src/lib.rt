@@ -1,4 +1,5 @@
 //! The machine at work on short tables.
 #![tactic(auto)]
+
 #[cfg(test)]
 mod tests;

@@ -111,7 +111,7 @@ fn counts_down_from_what_it_reads(rt: HostRuntime) -> Result<(), Fail> {
     let mut at: usize = 0;
     let told = run(&table, &mut Pile::new(&mut cells), &mut at, &mut host, 100);
     ended(&rt, told, 33)?;
-    assert_eq!(rt; host.written(), &[3, 2, 1]);
+    assert_eq!(rt; host.written(), [3, 2, 1].as_slice());
     Ok(())
 }
 
@@ -131,7 +131,7 @@ fn comes_back_from_a_call(rt: HostRuntime) -> Result<(), Fail> {
     let mut at: usize = 0;
     let told = run(&table, &mut Pile::new(&mut cells), &mut at, &mut host, 100);
     ended(&rt, told, 9)?;
-    assert_eq!(rt; host.written(), &[8, 9]);
+    assert_eq!(rt; host.written(), [8, 9].as_slice());
     // the entry to come back to lay below the value that was read
     assert_eq!(rt; cells, [2, 9]);
     Ok(())
