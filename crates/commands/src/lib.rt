@@ -1,5 +1,6 @@
 //! Commands that hold no other command: assignments, calls of procedures, `leia` and `escreva`; and conditions.
 #![tactic(auto)]
+
 mod conditions;
 mod leading;
 mod passing;

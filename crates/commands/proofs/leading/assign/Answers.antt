@@ -19,38 +19,38 @@ use Rattle.commands.proofs.Coming.{then_same, then_misfits, then_expression, the
 use Rattle.commands.proofs.Setting.{assign_taken}
 use Rattle.commands.proofs.leading.assign.Goals as goal
 
-pub returns-in-err-value : goal.returns-in-err-value
-returns-in-err-value c =
-    let p = err_from_is_err_and c.from-residual-in-err-value.result c.from-residual-in-err-value.ensures.1 in
+pub returns-in_err-value : goal.returns-in_err-value
+returns-in_err-value c =
+    let p = err_from_is_err_and c.from_residual-in_err-value.result c.from_residual-in_err-value.ensures.1 in
     let b = c.args.cursor.now in
     let l = c.args.listing.now in
     let n = c.args.depth in
     let names = c.args.names.now in
     let w = sign_there Signs.Becomes refl (ahead_of b) c.requires in
-    let v = c.in-ok-advance.ensures in
+    let v = c.in_ok-advance.ensures in
     rw (p.1, p.2) (
     record {
-      says = λ f os es st e. then_refused (assigned c.args.place f c.args.ty) (assign_taken (here b l n os es) w.token w.is c.requires f c.args.place c.args.ty c.advance.new.self v.0) l es n (λ k h. h) _ (c.in-err-value.ensures.says os es (stands_further names (here b l n os es) st b c.advance.new.self l es n refl (same_here l) st.lists v.2 v.3));
+      says = λ f os es st e. then_refused (assigned c.args.place f c.args.ty) (assign_taken (here b l n os es) w.token w.is c.requires f c.args.place c.args.ty c.advance.new.self v.0) l es n (λ k h. h) _ (c.in_err-value.ensures.says os es (stands_further names (here b l n os es) st b c.advance.new.self l es n refl (same_here l) st.lists v.2 v.3));
       went = tt;
-      same = c.in-err-value.ensures.same;
+      same = c.in_err-value.ensures.same;
     }
     )
 
-pub returns-then-not-same-type : goal.returns-then-not-same-type
-returns-then-not-same-type c =
+pub returns-then-not-same_type : goal.returns-then-not-same_type
+returns-then-not-same_type c =
     let b = c.args.cursor.now in
     let l = c.args.listing.now in
     let n = c.args.depth in
     let names = c.args.names.now in
     let w = sign_there Signs.Becomes refl (ahead_of b) c.requires in
-    let v = c.in-ok-advance.ensures in
-    let g : same_type c.in-ok-value.value c.args.ty ≡ false = sym c.if-not-same-type.ensures in
+    let v = c.in_ok-advance.ensures in
+    let g : same_type c.in_ok-value.value c.args.ty ≡ false = sym c.if-not-same_type.ensures in
     record {
       says = λ f os es st e.
-          let z = c.in-ok-value.ensures.says os es (stands_further names (here b l n os es) st b c.advance.new.self l es n refl (same_here l) st.lists v.2 v.3) in
+          let z = c.in_ok-value.ensures.says os es (stands_further names (here b l n os es) st b c.advance.new.self l es n refl (same_here l) st.lists v.2 v.3) in
           then_misfits (then_expression (assigned c.args.place f c.args.ty) (assign_taken (here b l n os es) w.token w.is c.requires f c.args.place c.args.ty c.advance.new.self v.0) l es n (λ k h. h) _ _ _ z) WrongType (λ k. rw (g, settle_expression) refl) _ c.wrong.ensures.0 c.wrong.ensures.1;
       went = tt;
-      same = c.in-ok-value.ensures.same;
+      same = c.in_ok-value.ensures.same;
     }
 
 pub returns : goal.returns
@@ -60,14 +60,14 @@ returns c =
     let n = c.args.depth in
     let names = c.args.names.now in
     let w = sign_there Signs.Becomes refl (ahead_of b) c.requires in
-    let v = c.in-ok-advance.ensures in
-    let g : same_type c.in-ok-value.value c.args.ty ≡ true = sym c.if-not-same-type.ensures in
-    let told = c.in-ok-value.ensures in
+    let v = c.in_ok-advance.ensures in
+    let g : same_type c.in_ok-value.value c.args.ty ≡ true = sym c.if-not-same_type.ensures in
+    let told = c.in_ok-value.ensures in
     let laid = c.lay.ensures in
     record {
       says = λ f os es st e.
           let z = told.says os es (stands_further names (here b l n os es) st b c.advance.new.self l es n refl (same_here l) st.lists v.2 v.3) in
-          let x : c.entry-of.result ≡ entry STR (cell_of (laid_at (here b l n os es)) f) 0 c.args.place = c.entry-of.ensures ∙ ap (λ i. entry STR i 0 c.args.place) e in
+          let x : c.entry_of.result ≡ entry STR (cell_of (laid_at (here b l n os es)) f) 0 c.args.place = c.entry_of.ensures ∙ ap (λ i. entry STR i 0 c.args.place) e in
           record {
             cmd = Tree.assign c.args.place f z.exp;
             lists = behind_tree _ es (of_exp (laid_at (here b l n os es)) z.exp) _ _ x (laid.lists _ z.lists);

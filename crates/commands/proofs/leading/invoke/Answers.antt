@@ -27,12 +27,12 @@ returns-in-Procedure c =
           let f : Tree.Found = record { hops = v.hops; index = v.index } in
           let r : Seen = record { kind = a_procedure v.index; hops = v.hops; inside = v.inside } in
           let e : d ≡ r = cc in
-          let x = c.entry-of.result in
+          let x = c.entry_of.result in
           let call : Entry = entry CALL (begin_of (laid_at a) f) 0 c.args.place in
           record {
             cmd = Tree.invoke c.args.place f;
             lists = relisted c.lay.new.self (es ++ (x ∷ [])) (es ++ (call ∷ [])) (length-append es (x ∷ []) ∙ sym (length-append es (call ∷ []))) (
-                λ o. ap (λ z. es ++ (z ∷ [])) (c.entry-of.ensures ∙ ap (λ i. entry CALL i 0 c.args.place) (v.entry (c.lay.ensures.same.2 o)))) (c.lay.ensures.lists es st.lists);
+                λ o. ap (λ z. es ++ (z ∷ [])) (c.entry_of.ensures ∙ ap (λ i. entry CALL i 0 c.args.place) (v.entry (c.lay.ensures.same.2 o)))) (c.lay.ensures.lists es st.lists);
             comes = then_same (begun (λ k t. settle t (past_name c.args.place d.kind d.hops d.inside k)) a) (λ k t. settle_command t (Tree.invoke c.args.place f) k) (λ k. ap (λ s. settle (ahead_of b) (past_name c.args.place s.kind s.hops s.inside k)) e ∙ calls (ahead_of b) c.args.place k c.requires v.index v.hops v.inside);
             fine = st.fine;
             text = refl;

@@ -21,8 +21,8 @@ use Rattle.commands.proofs.Coming.{begun, then_takes, then_breaks, then_halts, c
 use Rattle.commands.proofs.Setting.{seen_as, went_behind, went_token}
 use Rattle.commands.proofs.leading.named.Goals as goal
 
-pub returns-in-default : goal.returns-in-default
-returns-in-default c =
+pub returns-in_default : goal.returns-in_default
+returns-in_default c =
     let b = c.args.cursor.now in
     let l = c.args.listing.now in
     let n = c.args.depth in
@@ -31,15 +31,15 @@ returns-in-default c =
     record {
       says = λ i os es st.
           let a : Here = here b l n os es in
-          let v = unseen (laid_at a) l.over c.look-up.result _ (c.look-up.ensures.matches l.over os st.holds st.calm) c.in-default.is in
+          let v = unseen (laid_at a) l.over c.look_up.result _ (c.look_up.ensures.matches l.over os st.holds st.calm) c.in_default.is in
           then_halts (begun wanted a) (Tokens.name s) i want_command (λ k. refl) (Causes.Meaning NotVisible) (λ room k. ap (λ o. with_seen o (λ q. on (scopes_at a) (past_name (place_of b) q.kind q.hops q.inside k))) v) _ c.wrong.ensures.0 c.wrong.ensures.1;
       went = λ i. tt;
       same = (refl, refl, λ f. f);
     }
 
-pub returns-in-err-advance : goal.returns-in-err-advance
-returns-in-err-advance c =
-    let p = err_from_is_err_and c.from-residual.result c.from-residual.ensures.1 in
+pub returns-in_err-advance : goal.returns-in_err-advance
+returns-in_err-advance c =
+    let p = err_from_is_err_and c.from_residual.result c.from_residual.ensures.1 in
     let b = c.args.cursor.now in
     let l = c.args.listing.now in
     let n = c.args.depth in
@@ -49,36 +49,36 @@ returns-in-err-advance c =
     record {
       says = λ i os es st.
           let a : Here = here b l n os es in
-          let m = c.look-up.ensures.matches l.over os st.holds st.calm in
-          let g = seen_as (laid_at a) l.over c.look-up.result _ m c.in-Some.known c.in-Some.is in
+          let m = c.look_up.ensures.matches l.over os st.holds st.calm in
+          let g = seen_as (laid_at a) l.over c.look_up.result _ m c.in-Some.known c.in-Some.is in
           let d = g.seen in
           let sees : (room : ℕ) (k : CommandIn) → shift room (scopes_at a) (Tokens.name s) (place_of b) (want_command k) ≡ on (scopes_at a) (past_name (place_of b) d.kind d.hops d.inside k)
           = λ room k. ap (λ o. with_seen o (λ q. on (scopes_at a) (past_name (place_of b) q.kind q.hops q.inside k))) g.is in
-          then_breaks (begun wanted a) (Tokens.name s) i want_command (λ k. refl) (λ k. past_name (place_of b) d.kind d.hops d.inside k) sees _ c.in-err-advance.ensures;
+          then_breaks (begun wanted a) (Tokens.name s) i want_command (λ k. refl) (λ k. past_name (place_of b) d.kind d.hops d.inside k) sees _ c.in_err-advance.ensures;
       went = λ i. tt;
       same = (refl, refl, λ f. f);
     }
     )
 
-pub returns-then-is-sign : goal.returns-then-is-sign
-returns-then-is-sign c =
+pub returns-then-is_sign : goal.returns-then-is_sign
+returns-then-is_sign c =
     let b = c.args.cursor.now in
     let l = c.args.listing.now in
     let n = c.args.depth in
     let names = c.args.names.now in
     let s = c.args.name.now in
-    let v = c.in-ok-advance.ensures in
+    let v = c.in_ok-advance.ensures in
     record {
       says = λ i os es st.
           let a : Here = here b l n os es in
-          let m = c.look-up.ensures.matches l.over os st.holds st.calm in
-          let g = seen_as (laid_at a) l.over c.look-up.result _ m c.in-Some.known c.in-Some.is in
+          let m = c.look_up.ensures.matches l.over os st.holds st.calm in
+          let g = seen_as (laid_at a) l.over c.look_up.result _ m c.in-Some.known c.in-Some.is in
           let d = g.seen in
           let sees : (room : ℕ) (k : CommandIn) → shift room (scopes_at a) (Tokens.name s) (place_of b) (want_command k) ≡ on (scopes_at a) (past_name (place_of b) d.kind d.hops d.inside k)
           = λ room k. ap (λ o. with_seen o (λ q. on (scopes_at a) (past_name (place_of b) q.kind q.hops q.inside k))) g.is in
-          let p = c.entry-place-place.ensures (place_low b st.fine st.short) in
+          let p = c.entry_place-place.ensures (place_low b st.fine st.short) in
           let st' = stands_further names a st b c.advance.new.self l es n refl (same_here l) st.lists v.2 v.3 in
-          let m' = subst (λ o. Matches (laid_at a) l.over o (some d)) c.in-Some.is (subst (Matches (laid_at a) l.over c.look-up.result) g.is m) in
+          let m' = subst (λ o. Matches (laid_at a) l.over o (some d)) c.in-Some.is (subst (Matches (laid_at a) l.over c.look_up.result) g.is m) in
           continue wanted a (λ k t. settle t (past_name (place_of b) d.kind d.hops d.inside k)) c.advance.new.self (
           then_takes (begun wanted a) (Tokens.name s) i want_command (λ k. refl) (λ k. past_name (place_of b) d.kind d.hops d.inside k) sees c.advance.new.self v.0)
           v.3 _ _ c.set.result (subst (λ q. Runs (λ k t. settle t (past_name q d.kind d.hops d.inside k)) (here c.advance.new.self l n os es) c.set.new.cursor c.set.new.listing c.set.result) p (c.set.ensures.says os es d st' m'));
@@ -93,18 +93,18 @@ returns c =
     let n = c.args.depth in
     let names = c.args.names.now in
     let s = c.args.name.now in
-    let v = c.in-ok-advance.ensures in
+    let v = c.in_ok-advance.ensures in
     record {
       says = λ i os es st.
           let a : Here = here b l n os es in
-          let m = c.look-up.ensures.matches l.over os st.holds st.calm in
-          let g = seen_as (laid_at a) l.over c.look-up.result _ m c.in-Some.known c.in-Some.is in
+          let m = c.look_up.ensures.matches l.over os st.holds st.calm in
+          let g = seen_as (laid_at a) l.over c.look_up.result _ m c.in-Some.known c.in-Some.is in
           let d = g.seen in
           let sees : (room : ℕ) (k : CommandIn) → shift room (scopes_at a) (Tokens.name s) (place_of b) (want_command k) ≡ on (scopes_at a) (past_name (place_of b) d.kind d.hops d.inside k)
           = λ room k. ap (λ o. with_seen o (λ q. on (scopes_at a) (past_name (place_of b) q.kind q.hops q.inside k))) g.is in
-          let p = c.entry-place-place.ensures (place_low b st.fine st.short) in
+          let p = c.entry_place-place.ensures (place_low b st.fine st.short) in
           let st' = stands_further names a st b c.advance.new.self l es n refl (same_here l) st.lists v.2 v.3 in
-          let m' = subst (λ o. Matches (laid_at a) l.over o (some d)) c.in-Some.is (subst (Matches (laid_at a) l.over c.look-up.result) g.is m) in
+          let m' = subst (λ o. Matches (laid_at a) l.over o (some d)) c.in-Some.is (subst (Matches (laid_at a) l.over c.look_up.result) g.is m) in
           continue wanted a (λ k t. settle t (past_name (place_of b) d.kind d.hops d.inside k)) c.advance.new.self (
           then_takes (begun wanted a) (Tokens.name s) i want_command (λ k. refl) (λ k. past_name (place_of b) d.kind d.hops d.inside k) sees c.advance.new.self v.0)
           v.3 _ _ c.invoke.result (subst (λ q. Runs (λ k t. settle t (past_name q d.kind d.hops d.inside k)) (here c.advance.new.self l n os es) c.advance.new.self c.invoke.new.listing c.invoke.result) p (c.invoke.ensures.says names n os es d st' m'));

@@ -31,8 +31,8 @@ returns-in-Variable c =
       same = c.assign.ensures.same;
     }
 
-pub returns-else-not-is-inside : goal.returns-else-not-is-inside
-returns-else-not-is-inside c =
+pub returns-else-not-is_inside : goal.returns-else-not-is_inside
+returns-else-not-is_inside c =
     let b = c.args.cursor.now in
     let l = c.args.listing.now in
     let n = c.args.depth in
@@ -45,14 +45,14 @@ returns-else-not-is-inside c =
           let f : Tree.Found = record { hops = pred v.hops; index = 0 } in
           let r : Seen = record { kind = a_function y v.index; hops = v.hops; inside = v.inside } in
           let e : d ≡ r = cc in
-          let i = sym v.within ∙ sym c.if-not-is-inside.ensures in
+          let i = sym v.within ∙ sym c.if-not-is_inside.ensures in
           from_start (λ k t. settle t (past_name c.args.place d.kind d.hops d.inside k)) (λ k t. at (to_assign c.args.place f y k)) a (λ k. ap (λ s. settle (ahead_of b) (past_name c.args.place s.kind s.hops s.inside k)) e ∙ sets_result (ahead_of b) c.args.place k c.requires y v.index v.hops v.inside i) _ _ c.assign-in-Function.result (c.assign-in-Function.ensures.says f os es st (v.cell i));
       went = c.assign-in-Function.ensures.went;
       same = c.assign-in-Function.ensures.same;
     }
 
-pub returns-then-not-is-inside : goal.returns-then-not-is-inside
-returns-then-not-is-inside c =
+pub returns-then-not-is_inside : goal.returns-then-not-is_inside
+returns-then-not-is_inside c =
     let b = c.args.cursor.now in
     let l = c.args.listing.now in
     let n = c.args.depth in
@@ -63,7 +63,7 @@ returns-then-not-is-inside c =
           let v = function_seen (laid_at a) l.over c.args.known (Some c.args.known) _ m refl c.in-Function.ty c.in-Function.is in
           let r : Seen = record { kind = a_function c.in-Function.ty v.index; hops = v.hops; inside = v.inside } in
           let e : d ≡ r = cc in
-          then_misfits (begun (λ k t. settle t (past_name c.args.place d.kind d.hops d.inside k)) a) WrongKind (λ k. ap (λ s. settle (ahead_of b) (past_name c.args.place s.kind s.hops s.inside k)) e ∙ sets_no_function (ahead_of b) c.args.place k c.requires c.in-Function.ty v.index v.hops v.inside (sym v.within ∙ sym c.if-not-is-inside.ensures)) _ c.wrong.ensures.0 c.wrong.ensures.1;
+          then_misfits (begun (λ k t. settle t (past_name c.args.place d.kind d.hops d.inside k)) a) WrongKind (λ k. ap (λ s. settle (ahead_of b) (past_name c.args.place s.kind s.hops s.inside k)) e ∙ sets_no_function (ahead_of b) c.args.place k c.requires c.in-Function.ty v.index v.hops v.inside (sym v.within ∙ sym c.if-not-is_inside.ensures)) _ c.wrong.ensures.0 c.wrong.ensures.1;
       went = tt;
       same = (refl, refl, λ f. f);
     }

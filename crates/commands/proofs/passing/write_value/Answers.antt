@@ -20,14 +20,14 @@ use Rattle.commands.proofs.Coming.{begun, then_takes, then_halted, then_comes}
 use Rattle.commands.proofs.Values.{escreva_begins}
 use Rattle.commands.proofs.passing.write_value.Goals as goal
 
-pub returns-in-err-variable : goal.returns-in-err-variable
-returns-in-err-variable c =
-    let z = err_from_is_err_and c.from-residual-in-err-variable.result c.from-residual-in-err-variable.ensures.1 in
+pub returns-in_err-variable : goal.returns-in_err-variable
+returns-in_err-variable c =
+    let z = err_from_is_err_and c.from_residual-in_err-variable.result c.from_residual-in_err-variable.ensures.1 in
     let b = c.args.cursor.now in
     let l = c.args.listing.now in
     let n = c.args.depth in
     let nm = c.args.names.now in
-    let v = c.in-ok-advance.ensures in
+    let v = c.in_ok-advance.ensures in
     let d = c.advance.new.self in
     rw (z.1, z.2) (
     record {
@@ -37,7 +37,7 @@ returns-in-err-variable c =
           let i = ap (is_word Words.Escreva) (sym w.is) ∙ h in
           let st' = stands_further nm a st b d l es n refl (same_here l) st.lists v.2 v.3 in
           let x = then_takes (begun wanted a) w.token w.is want_command (λ k. refl) (λ k. opens writes (place_of b) k) (λ room k. escreva_begins w.token i (scopes_at a) (place_of b) k) d v.0 in
-          then_halted wanted a (λ k t. at (opens writes (place_of b) k)) d l es x _ (c.in-err-variable.ensures.says writes (place_of b) l n os es st');
+          then_halted wanted a (λ k t. at (opens writes (place_of b) k)) d l es x _ (c.in_err-variable.ensures.says writes (place_of b) l n os es st');
       went = λ h. tt;
       same = (refl, refl, λ f. f);
     }
@@ -49,10 +49,10 @@ returns c =
     let l = c.args.listing.now in
     let n = c.args.depth in
     let nm = c.args.names.now in
-    let v = c.in-ok-advance.ensures in
+    let v = c.in_ok-advance.ensures in
     let d = c.advance.new.self in
-    let t = c.in-ok-variable.variable in
-    let told = c.in-ok-variable.ensures in
+    let t = c.in_ok-variable.variable in
+    let told = c.in_ok-variable.ensures in
     let p1 = c.lay.ensures in
     let p2 = c.lay-2.ensures in
     record {
@@ -63,14 +63,14 @@ returns c =
           let st' = stands_further nm a st b d l es n refl (same_here l) st.lists v.2 v.3 in
           let x = then_takes (begun wanted a) w.token w.is want_command (λ k. refl) (λ k. opens writes (place_of b) k) (λ room k. escreva_begins w.token i (scopes_at a) (place_of b) k) d v.0 in
           let f = told.says writes (place_of b) l n os es st' in
-          let key = c.entry-place-keyword.ensures (place_low b st.fine st.short) in
+          let key = c.entry_place-keyword.ensures (place_low b st.fine st.short) in
           let one : Entry = entry LDV (cell_of (laid_at a) f.found) 0 t.place in
           let two : Entry = plain PRN (place_of b) in
-          let is_one : c.entry-of.result ≡ one = c.entry-of.ensures ∙ ap (λ m. entry LDV m 0 t.place) f.cell in
-          let is_two : c.entry-of-2.result ≡ two = c.entry-of-2.ensures ∙ ap (plain PRN) key in
+          let is_one : c.entry_of.result ≡ one = c.entry_of.ensures ∙ ap (λ m. entry LDV m 0 t.place) f.cell in
+          let is_two : c.entry_of-2.result ≡ two = c.entry_of-2.ensures ∙ ap (plain PRN) key in
           record {
             cmd = Tree.escreva (place_of b) t.place f.found;
-            lists = subst (Lists c.lay-2.new.self) (append_assoc es (c.entry-of.result ∷ []) (c.entry-of-2.result ∷ []) ∙ ap (λ z. es ++ (z ∷ c.entry-of-2.result ∷ [])) is_one ∙ ap (λ z. es ++ (one ∷ z ∷ [])) is_two) (p2.lists (es ++ (c.entry-of.result ∷ [])) (p1.lists es st.lists));
+            lists = subst (Lists c.lay-2.new.self) (append_assoc es (c.entry_of.result ∷ []) (c.entry_of-2.result ∷ []) ∙ ap (λ z. es ++ (z ∷ c.entry_of-2.result ∷ [])) is_one ∙ ap (λ z. es ++ (one ∷ z ∷ [])) is_two) (p2.lists (es ++ (c.entry_of.result ∷ [])) (p1.lists es st.lists));
             comes = then_comes wanted a (λ k u. at (opens writes (place_of b) k)) d l es x (λ k u. settle_command u (command_of writes (place_of b) t.place f.found) k) _ f.comes;
             fine = told.went.fine;
             text = told.went.text ∙ v.3;
