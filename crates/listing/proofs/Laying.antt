@@ -1,5 +1,5 @@
 -- What laying and changing an entry make of the entries that a listing stands for.
-use Rattle.std.proofs.Common.{◌≡◌, ℕ, ◌+◌, ◌<◌, ◌≤◌, true, false, List, [], ◌∷◌, ◌++◌, length, take, set, Ok, Err, Result, sym, ap, ◌∙◌, subst, true≢false, arith, length-append, length-set, length-take, rules, MatchResult}
+use Rattle.std.proofs.Common.{◌≡◌, ℕ, ◌<◌, ◌≤◌, true, false, List, [], ◌∷◌, ◌++◌, length, take, set, Ok, Err, Result, sym, ap, ◌∙◌, subst, true≢false, arith, length-append, length-set, length-take, rules, MatchResult}
 use Rattle.std.proofs.lemmas.List.{set_at, set_past, same_lists, places}
 use Rattle.pile.specs.declared.Pile.{Pile}
 use Rattle.pile.specs.declared.Refusal.{Refusal}

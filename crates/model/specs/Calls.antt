@@ -1,5 +1,5 @@
 -- The three calls on a runner and the memory that it is lent. Assumes nothing.
-use Rattle.std.specs.Prelude.{true, false, List, [], ◌++◌, ℕ, ◌+◌, ◌-◌, min, leb, ℤ, pos, length, take, drop, replicate}
+use Rattle.std.specs.Prelude.{true, false, List, [], ◌++◌, ℕ, ◌-◌, min, leb, ℤ, pos, length, take, drop, replicate}
 use Rattle.model.specs.Reading.{read}
 use Rattle.model.specs.Judge.{Verdict, accepted, refused, verdict, at_start}
 use Rattle.model.specs.Code.{of_program}

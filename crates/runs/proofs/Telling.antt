@@ -7,7 +7,6 @@ use native.Mathlib.Omega.{arith}
 use lib.ListN.{get_or}
 use Rattle.host.specs.Meaning.{Meaning}
 use Rattle.model.specs.declared.table.Entry.{Entry}
-use Rattle.model.specs.declared.faults.RunFault.{RunFault}
 use Rattle.model.specs.declared.told.Told.{Told}
 use Rattle.model.specs.declared.told.Told.TheVariants.{Ended, Stopped, Running}
 use Rattle.model.specs.Machine.{Machine, Went, goes, halts, stops, step, After, settle, run, advanced, no_entry}

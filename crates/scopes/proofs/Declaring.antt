@@ -6,10 +6,10 @@ use Rattle.scopes.specs.declared.names.Name.{Name}
 use Rattle.model.specs.declared.names.NameKind.TheVariants.{Procedure, Function}
 use Rattle.model.specs.declared.script.Ty.{Ty}
 use Rattle.model.specs.Tree
-use Rattle.model.specs.Names.{Kind, a_variable, a_procedure, a_function, Known, routine_number, alike_numbers, records}
+use Rattle.model.specs.Names.{Kind, a_variable, a_procedure, a_function, Known, routine_number, alike_numbers}
 use Rattle.model.specs.Blocks.{all_known, program_opened}
 use Rattle.scopes.specs.Records.{spelling, with_type, left}
-use Rattle.scopes.specs.Levels.{Level, waited, grouped, named, entered, ended, StandsFor, Recorded, Waiting, Below, Block, Knows, SpelledAt}
+use Rattle.scopes.specs.Levels.{Level, waited, grouped, named, entered, ended, StandsFor, Recorded, Waiting, Below, Knows, SpelledAt}
 use Rattle.scopes.proofs.Seeing.{none_wait}
 
 -- the same records, by equal lists

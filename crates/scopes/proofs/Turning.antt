@@ -1,5 +1,5 @@
 -- What the calls of a pile do to its elements, newest first.
-use Rattle.std.proofs.Common.{◌≡◌, ℕ, ◌+◌, ◌<◌, ◌≤◌, List, [], ◌∷◌, ◌++◌, reverse, length, get_or, take, set, Ok, Err, Result, sym, ap, ◌∙◌, arith, length-append, length-set, length-take, MatchResult}
+use Rattle.std.proofs.Common.{◌≡◌, ℕ, ◌<◌, ◌≤◌, List, [], ◌∷◌, ◌++◌, reverse, length, get_or, take, set, Ok, Err, Result, sym, ap, ◌∙◌, arith, length-append, length-set, length-take, MatchResult}
 use Rattle.std.proofs.lemmas.List.{reverse-append, length-reverse, set_at, get_or_at}
 use Rattle.pile.specs.declared.Pile.{Pile}
 use Rattle.pile.specs.declared.Refusal.{Refusal}

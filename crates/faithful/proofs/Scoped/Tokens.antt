@@ -8,7 +8,6 @@ use native.Mathlib.Omega.{arith}
 use lib.Dec.{leb, ltb}
 use lib.IntN.{pos}
 use lib.ListN.{length}
-use Rattle.host.specs.Meaning.{Meaning}
 use Rattle.model.specs.declared.faults.RoomFault.TheVariants.{NamesFull, ManyCells}
 use Rattle.model.specs.declared.faults.MeaningFault.TheVariants.{Twice}
 use Rattle.model.specs.declared.faults.GrammarFault.TheVariants.{TooDeep}
