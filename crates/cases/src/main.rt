@@ -13,6 +13,7 @@ use crate::words::{Flaw, Words};
 use anyhow::anyhow;
 use std::alloc::Global;
 use std::fs;
+use std::process::ExitCode;
 
 const TABLES: &str = "tables.cases";
 
@@ -113,6 +114,10 @@ fn check_tables(rt: &HostRuntime) -> anyhow::Result<()> {
     Ok(())
 }
 
-fn main(rt: HostRuntime) -> anyhow::Result<()> {
-    check_tables(&rt)
+fn main(rt: HostRuntime) -> ExitCode {
+    // What went wrong has been told.
+    match check_tables(&rt) {
+        Ok(()) => ExitCode::SUCCESS,
+        Err(_) => ExitCode::FAILURE,
+    }
 }

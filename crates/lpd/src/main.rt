@@ -11,6 +11,7 @@ use reader::Reader;
 use reader::tokens::{Lexeme, Token};
 use report::faults::FaultReport;
 use report::spelling::{sign_text, word_text};
+use std::process::ExitCode;
 use std::{fs, io};
 
 const SCRIPT: &str = "script.lpd";
@@ -72,6 +73,10 @@ fn list(rt: &HostRuntime) -> anyhow::Result<()> {
     }
 }
 
-fn main(rt: HostRuntime) -> anyhow::Result<()> {
-    list(&rt)
+fn main(rt: HostRuntime) -> ExitCode {
+    // What went wrong has been told.
+    match list(&rt) {
+        Ok(()) => ExitCode::SUCCESS,
+        Err(_) => ExitCode::FAILURE,
+    }
 }

@@ -18,7 +18,7 @@ pub data Exp : Type 0 where
   denied : ℕ → Exp → Exp
   joined : Operator → ℕ → Exp → Exp → Exp
 
--- the second number of leia and escreva is the name's place, that of se-senao the place of `senao`
+-- the second number of leia and escreva is the name's place, that of se_senao the place of `senao`
 pub data Cmd : Type 0 where
   assign : ℕ → Found → Exp → Cmd
   invoke : ℕ → Found → Cmd
