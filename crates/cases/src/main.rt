@@ -115,7 +115,7 @@ fn check_tables(rt: &HostRuntime) -> anyhow::Result<()> {
 }
 
 fn main(rt: HostRuntime) -> ExitCode {
-    // What went wrong has been told.
+    // A failure has been told, but for one in telling it.
     match check_tables(&rt) {
         Ok(()) => ExitCode::SUCCESS,
         Err(_) => ExitCode::FAILURE,

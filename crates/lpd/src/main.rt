@@ -74,7 +74,7 @@ fn list(rt: &HostRuntime) -> anyhow::Result<()> {
 }
 
 fn main(rt: HostRuntime) -> ExitCode {
-    // What went wrong has been told.
+    // A failure has been told, but for one in telling it.
     match list(&rt) {
         Ok(()) => ExitCode::SUCCESS,
         Err(_) => ExitCode::FAILURE,
