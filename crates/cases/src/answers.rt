@@ -4,6 +4,8 @@ use model::told::Told;
 use std::fmt;
 
 /// What a run tells, with a fault by its number.
+// Not `Told` itself: a case may write a number that no fault has, which is told as a difference. Nor `Told` of any fault: the
+// definitions of the machine and of the calls name it, and would name its fault everywhere.
 #[derive(Clone, Copy, PartialEq, Eq)]
 pub enum Answer {
     Ended {
@@ -21,8 +23,30 @@ pub enum Answer {
 }
 
 impl Answer {
-    /// What was told.
-    pub fn of(told: Told) -> Answer {
+    /// The answer that the words left on a line are.
+    pub fn read(mut words: Words<'_>) -> Result<Answer, Flaw> {
+        let answer = match words.word()? {
+            "ended" => Answer::Ended {
+                steps: words.labelled("steps")?,
+            },
+            "running" => Answer::Running {
+                steps: words.labelled("steps")?,
+            },
+            "stopped" => Answer::Stopped {
+                fault: words.number()?,
+                entry: words.labelled("entry")?,
+                place: words.labelled("place")?,
+                steps: words.labelled("steps")?,
+            },
+            _ => return Err(Flaw::WrongWord),
+        };
+        words.end()?;
+        Ok(answer)
+    }
+}
+
+impl From<Told> for Answer {
+    fn from(told: Told) -> Answer {
         match told {
             Told::Ended { steps } => Answer::Ended { steps },
             Told::Stopped {
@@ -39,37 +63,6 @@ impl Answer {
             Told::Running { steps } => Answer::Running { steps },
         }
     }
-
-    /// The answer that the words left on a line are.
-    pub fn read(mut words: Words<'_>) -> Result<Answer, Flaw> {
-        let kind = words.word()?;
-        let answer = if kind == "ended" {
-            let steps = words.labelled("steps")?;
-            Answer::Ended { steps }
-        } else if kind == "running" {
-            let steps = words.labelled("steps")?;
-            Answer::Running { steps }
-        } else if kind == "stopped" {
-            read_stop(&mut words)?
-        } else {
-            return Err(Flaw::WrongWord);
-        };
-        words.end()?;
-        Ok(answer)
-    }
-}
-
-fn read_stop(words: &mut Words<'_>) -> Result<Answer, Flaw> {
-    let fault = words.number()?;
-    let entry = words.labelled("entry")?;
-    let place = words.labelled("place")?;
-    let steps = words.labelled("steps")?;
-    Ok(Answer::Stopped {
-        fault,
-        entry,
-        place,
-        steps,
-    })
 }
 
 impl fmt::Display for Answer {

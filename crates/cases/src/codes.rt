@@ -1,45 +1,47 @@
 //! The codes of the machine by their names.
 use crate::words::Flaw;
+use model::ops::Op;
+use model::script::Operator;
 
-const NAMED: [(&str, u8); 27] = [
-    ("START", 1),
-    ("HLT", 2),
-    ("LDC", 3),
-    ("LDV", 4),
-    ("STR", 5),
-    ("ADD", 6),
-    ("SUB", 7),
-    ("MULT", 8),
-    ("DIVI", 9),
-    ("INV", 10),
-    ("AND", 11),
-    ("OR", 12),
-    ("NEG", 13),
-    ("CME", 14),
-    ("CMA", 15),
-    ("CEQ", 16),
-    ("CDIF", 17),
-    ("CMEQ", 18),
-    ("CMAQ", 19),
-    ("JMP", 20),
-    ("JMPF", 21),
-    ("RD", 22),
-    ("PRN", 23),
-    ("ALLOC", 24),
-    ("DALLOC", 25),
-    ("CALL", 26),
-    ("RETURN", 27),
-];
+/// The instruction of a name, where it is the name of one.
+fn named(word: &str) -> Option<Op> {
+    let op = match word {
+        "START" => Op::Start,
+        "HLT" => Op::Hlt,
+        "LDC" => Op::Ldc,
+        "LDV" => Op::Ldv,
+        "STR" => Op::Str,
+        "ADD" => Op::Both(Operator::Add),
+        "SUB" => Op::Both(Operator::Sub),
+        "MULT" => Op::Both(Operator::Mult),
+        "DIVI" => Op::Both(Operator::Divi),
+        "INV" => Op::Inv,
+        "AND" => Op::Both(Operator::And),
+        "OR" => Op::Both(Operator::Or),
+        "NEG" => Op::Neg,
+        "CME" => Op::Both(Operator::Less),
+        "CMA" => Op::Both(Operator::Greater),
+        "CEQ" => Op::Both(Operator::Equal),
+        "CDIF" => Op::Both(Operator::Unequal),
+        "CMEQ" => Op::Both(Operator::AtMost),
+        "CMAQ" => Op::Both(Operator::AtLeast),
+        "JMP" => Op::Jmp,
+        "JMPF" => Op::Jmpf,
+        "RD" => Op::Rd,
+        "PRN" => Op::Prn,
+        "ALLOC" => Op::Alloc,
+        "DALLOC" => Op::Dalloc,
+        "CALL" => Op::Call,
+        "RETURN" => Op::Return,
+        _ => return None,
+    };
+    Some(op)
+}
 
 /// The code that a word names, or the number that it is.
 pub fn code_of(word: &str) -> Result<u8, Flaw> {
-    for named in NAMED.iter() {
-        if named.0 == word {
-            return Ok(named.1);
-        }
-    }
-    match word.parse::<u8>() {
-        Ok(code) => Ok(code),
-        Err(_) => Err(Flaw::NoCode),
+    match named(word) {
+        Some(op) => Ok(op.code()),
+        None => word.parse().map_err(|_| Flaw::NoCode),
     }
 }

@@ -2,6 +2,21 @@
 use crate::words::{Flaw, Words};
 use std::alloc::{AllocError, Global};
 
+/// Why a case does not agree.
+#[derive(Drop)]
+pub enum Difference {
+    /// It differs, as the words tell.
+    Told(String),
+    /// There is no memory left for running it.
+    Memory,
+}
+
+impl From<AllocError> for Difference {
+    fn from(_error: AllocError) -> Difference {
+        Difference::Memory
+    }
+}
+
 /// A kind of case: how its lines are read, and what is compared.
 pub trait Kind {
     /// The name of the case that was read last.
@@ -14,5 +29,5 @@ pub trait Kind {
     fn read(&mut self, heap: Global, key: &str, words: Words<'_>) -> Result<(), Flaw>;
 
     /// Runs the case that was read last, and tells in words the first thing that differs.
-    fn check(&self, heap: Global) -> Result<Option<String>, AllocError>;
+    fn check(&self, heap: Global) -> Result<(), Difference>;
 }

@@ -7,7 +7,7 @@ mod kinds;
 mod tables;
 mod words;
 
-use crate::kinds::Kind;
+use crate::kinds::{Difference, Kind};
 use crate::tables::TableCase;
 use crate::words::{Flaw, Words};
 use anyhow::anyhow;
@@ -25,6 +25,7 @@ struct Tally {
 }
 
 /// What comes of a line of a case file.
+// Not `Option<Result<(), String>>`, which would not show what its `None` and its `Ok` are.
 #[derive(Drop)]
 enum Outcome {
     /// No case is whole with it.
@@ -48,9 +49,10 @@ fn read_line<K: Kind>(heap: Global, case: &mut K, line: &str) -> Result<Outcome,
     if !case.is_whole() {
         return Ok(Outcome::GoesOn);
     }
-    match case.check(heap)? {
-        Some(difference) => Ok(Outcome::Differs(difference)),
-        None => Ok(Outcome::Agrees),
+    match case.check(heap) {
+        Ok(()) => Ok(Outcome::Agrees),
+        Err(Difference::Told(difference)) => Ok(Outcome::Differs(difference)),
+        Err(Difference::Memory) => Err(Flaw::Memory),
     }
 }
 
@@ -77,9 +79,7 @@ fn check_text<K: Kind>(
     case: &mut K,
 ) -> anyhow::Result<Tally> {
     let mut tally = Tally { cases: 0, agree: 0 };
-    let mut number: usize = 0;
-    for line in text.lines() {
-        number = number.saturating_add(1);
+    for (k, line) in text.lines().enumerate() {
         match read_line(rt.alloc(), case, line) {
             Ok(Outcome::GoesOn) => {}
             Ok(Outcome::Agrees) => tally.count(true),
@@ -88,11 +88,11 @@ fn check_text<K: Kind>(
                 println!(rt; "case {name}, {difference}")?;
                 tally.count(false);
             }
-            Err(flaw) => tell_flaw(rt, file, number, flaw)?,
+            Err(flaw) => tell_flaw(rt, file, k + 1, flaw)?,
         }
     }
     if !case.is_whole() {
-        tell_flaw(rt, file, number, Flaw::Unfinished)?;
+        tell_flaw(rt, file, text.lines().count(), Flaw::Unfinished)?;
     }
     Ok(tally)
 }

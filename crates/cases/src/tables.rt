@@ -2,14 +2,16 @@
 //! and what all cells hold is compared.
 use crate::answers::Answer;
 use crate::codes::code_of;
-use crate::kinds::Kind;
+use crate::kinds::{Difference, Kind};
 use crate::words::{Flaw, Words};
 use host::Host;
 use host::lists::ListHost;
 use machine::run::run;
 use model::table::Entry;
 use pile::Pile;
-use std::alloc::{AllocError, Global};
+use std::alloc::Global;
+use std::fmt::Debug;
+use std::str::FromStr;
 
 /// The lines of a case, in their order.
 #[derive(Clone, Copy, PartialEq, Eq)]
@@ -26,8 +28,25 @@ enum Part {
 }
 
 impl Part {
-    /// The line that begins with this word.
-    fn of(key: &str) -> Result<Part, Flaw> {
+    /// Whether the line may stand behind the line `last`.
+    fn follows(self, last: Part) -> bool {
+        match self {
+            Part::Case => last == Part::Left,
+            Part::Entry | Part::Cells => matches!(last, Part::Case | Part::Entry),
+            Part::Waiting => last == Part::Cells,
+            Part::Room => last == Part::Waiting,
+            Part::Run | Part::Written => matches!(last, Part::Room | Part::Run),
+            Part::Taken => last == Part::Written,
+            Part::Left => last == Part::Taken,
+        }
+    }
+}
+
+/// The line that begins with a word.
+impl FromStr for Part {
+    type Err = Flaw;
+
+    fn from_str(key: &str) -> Result<Part, Flaw> {
         match key {
             "case" => Ok(Part::Case),
             "entry" => Ok(Part::Entry),
@@ -39,21 +58,6 @@ impl Part {
             "taken" => Ok(Part::Taken),
             "left" => Ok(Part::Left),
             _ => Err(Flaw::NoSuchLine),
-        }
-    }
-
-    /// Whether the line may stand behind the line `last`.
-    fn follows(self, last: Part) -> bool {
-        match self {
-            Part::Case => last == Part::Left,
-            Part::Entry => last == Part::Case || last == Part::Entry,
-            Part::Cells => last == Part::Case || last == Part::Entry,
-            Part::Waiting => last == Part::Cells,
-            Part::Room => last == Part::Waiting,
-            Part::Run => last == Part::Room || last == Part::Run,
-            Part::Written => last == Part::Room || last == Part::Run,
-            Part::Taken => last == Part::Written,
-            Part::Left => last == Part::Taken,
         }
     }
 }
@@ -96,17 +100,18 @@ fn read_run(mut words: Words<'_>) -> Result<Run, Flaw> {
     Ok(Run { budget, answer })
 }
 
-// What is said where a list is another one than was expected.
-fn differing(
+// That what came is what was expected.
+fn same<T: PartialEq + Debug + Copy>(
     heap: Global,
     what: &str,
-    expected: &[i32],
-    came: &[i32],
-) -> Result<Option<String>, AllocError> {
+    expected: T,
+    came: T,
+) -> Result<(), Difference> {
     if came == expected {
-        return Ok(None);
+        return Ok(());
     }
-    Ok(Some(format!(in heap; "{what}: expected {expected:?}, came {came:?}")?))
+    let told = format!(in heap; "{what}: expected {expected:?}, came {came:?}")?;
+    Err(Difference::Told(told))
 }
 
 impl TableCase {
@@ -155,20 +160,20 @@ impl TableCase {
         heap: Global,
         cells: &mut [i32],
         host: &mut H,
-    ) -> Result<Option<String>, AllocError> {
+    ) -> Result<(), Difference> {
         let mut pile = Pile::new(cells);
         let mut at: usize = 0;
         let table = self.table.as_slice();
         for (k, part) in self.runs.iter().enumerate() {
             let expected = part.answer;
-            let came = Answer::of(run(table, &mut pile, &mut at, host, part.budget));
+            let came = Answer::from(run(table, &mut pile, &mut at, host, part.budget));
             if came != expected {
                 let number = k + 1;
                 let told = format!(in heap; "run {number}: expected {expected}, came {came}")?;
-                return Ok(Some(told));
+                return Err(Difference::Told(told));
             }
         }
-        Ok(None)
+        Ok(())
     }
 
     // The runs, and what the host has written and taken, over lent memory.
@@ -178,20 +183,11 @@ impl TableCase {
         waiting: &'a [i32],
         output: &'a mut [i32],
         cells: &mut [i32],
-    ) -> Result<Option<String>, AllocError> {
+    ) -> Result<(), Difference> {
         let mut host = ListHost::new(waiting, output);
-        if let Some(told) = self.check_runs(heap, cells, &mut host)? {
-            return Ok(Some(told));
-        }
-        if let Some(told) = differing(heap, "written", self.written.as_slice(), host.written())? {
-            return Ok(Some(told));
-        }
-        let came = host.taken();
-        let expected = self.taken;
-        if came == expected {
-            return Ok(None);
-        }
-        Ok(Some(format!(in heap; "taken: expected {expected}, came {came}")?))
+        self.check_runs(heap, cells, &mut host)?;
+        same(heap, "written", self.written.as_slice(), host.written())?;
+        same(heap, "taken", self.taken, host.taken())
     }
 }
 
@@ -205,7 +201,7 @@ impl Kind for TableCase {
     }
 
     fn read(&mut self, heap: Global, key: &str, words: Words<'_>) -> Result<(), Flaw> {
-        let part = Part::of(key)?;
+        let part: Part = key.parse()?;
         if !part.follows(self.last) {
             return Err(Flaw::Misplaced);
         }
@@ -214,14 +210,11 @@ impl Kind for TableCase {
         Ok(())
     }
 
-    fn check(&self, heap: Global) -> Result<Option<String>, AllocError> {
+    fn check(&self, heap: Global) -> Result<(), Difference> {
         let mut cells = vec![in heap; 0; self.cells]?;
         let mut output = vec![in heap; 0; self.room]?;
         let waiting = self.waiting.as_slice();
-        let told = self.check_host(heap, waiting, output.as_mut_slice(), cells.as_mut_slice())?;
-        match told {
-            Some(difference) => Ok(Some(difference)),
-            None => differing(heap, "left", self.left.as_slice(), cells.as_slice()),
-        }
+        self.check_host(heap, waiting, output.as_mut_slice(), cells.as_mut_slice())?;
+        same(heap, "left", self.left.as_slice(), cells.as_slice())
     }
 }

@@ -1,46 +1,38 @@
 //! The lines, words and numbers of a case file.
 use std::alloc::{AllocError, AllocFailed, Global};
-use std::fmt;
 use std::str::{FromStr, SplitWhitespace};
+use thiserror::Error;
 
 /// Why a case file, or the cases in it, cannot be read to the end.
-#[derive(Clone, Copy)]
+#[derive(Clone, Copy, Debug, Error)]
 pub enum Flaw {
     /// The line begins with no word that is known.
+    #[error("no line of a case begins like this")]
     NoSuchLine,
     /// The line may not stand here.
+    #[error("this line may not stand here")]
     Misplaced,
     /// A word is wanted behind the last one.
+    #[error("a word is missing at the end of the line")]
     Missing,
     /// There is a word more than is wanted.
+    #[error("there are too many words on the line")]
     TooMany,
     /// Another word is wanted.
+    #[error("another word is wanted here")]
     WrongWord,
     /// The word is no number, or one that is too great or too small here.
+    #[error("a word is not the number that is wanted here")]
     NoNumber,
     /// The word is no code, neither by name nor by number.
+    #[error("a code is wanted here, by its name or as a number up to 255")]
     NoCode,
     /// The text ends within a case.
+    #[error("the text ends within a case")]
     Unfinished,
     /// There is no memory left.
+    #[error("there is no memory left")]
     Memory,
-}
-
-impl fmt::Display for Flaw {
-    fn fmt<W: fmt::Write>(&self, f: &mut fmt::Formatter<W>) -> fmt::Result {
-        let text = match self {
-            Flaw::NoSuchLine => "no line of a case begins like this",
-            Flaw::Misplaced => "this line may not stand here",
-            Flaw::Missing => "a word is missing at the end of the line",
-            Flaw::TooMany => "there are too many words on the line",
-            Flaw::WrongWord => "another word is wanted here",
-            Flaw::NoNumber => "a word is not the number that is wanted here",
-            Flaw::NoCode => "a code is wanted here, by its name or as a number up to 255",
-            Flaw::Unfinished => "the text ends within a case",
-            Flaw::Memory => "there is no memory left",
-        };
-        write!(f, "{text}")
-    }
 }
 
 impl From<AllocError> for Flaw {
@@ -76,10 +68,7 @@ impl<'a> Words<'a> {
 
     /// The next word, which must be there.
     pub fn word(&mut self) -> Result<&'a str, Flaw> {
-        match self.rest.next() {
-            Some(word) => Ok(word),
-            None => Err(Flaw::Missing),
-        }
+        self.rest.next().ok_or(Flaw::Missing)
     }
 
     /// The next word, which must be `wanted`.
@@ -95,10 +84,7 @@ impl<'a> Words<'a> {
     where
         N::Err: Drop,
     {
-        match self.word()?.parse::<N>() {
-            Ok(number) => Ok(number),
-            Err(_) => Err(Flaw::NoNumber),
-        }
+        self.word()?.parse().map_err(|_| Flaw::NoNumber)
     }
 
     /// The number behind a label.
@@ -122,14 +108,9 @@ impl<'a> Words<'a> {
 
     /// The values that all words left are.
     pub fn values(self, heap: Global) -> Result<Vec<i32>, Flaw> {
-        let mut values = Vec::new(heap);
-        for word in self.rest {
-            match word.parse::<i32>() {
-                Ok(value) => values.push(value)?,
-                Err(_) => return Err(Flaw::NoNumber),
-            }
-        }
-        Ok(values)
+        self.rest
+            .map(|word| word.parse::<i32>().map_err(|_| Flaw::NoNumber))
+            .try_collect(heap)
     }
 
     /// Sees that no word is left.

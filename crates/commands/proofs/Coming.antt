@@ -13,10 +13,10 @@ use Rattle.model.specs.Settling.{at, wrong, settle, settle_expression}
 use Rattle.model.specs.Judged.{on, refuses, not_admitted}
 use Rattle.model.specs.Judge.{shift, refused}
 use Rattle.cursor.specs.declared.Cursor.{Cursor}
-use Rattle.cursor.specs.Rests.{text_of, rest_of, behind, ahead_of, place_of, Breaks, stray}
+use Rattle.cursor.specs.Rests.{rest_of, behind, ahead_of, place_of, Breaks, stray}
 use Rattle.cursor.proofs.Judging as Judging
-use Rattle.listing.specs.declared.Listing.{Listing}
 use Rattle.expressions.specs.Parts.{expression, whole}
+use Rattle.expressions.specs.declared.Translation.{Translation}
 use Rattle.expressions.specs.Says.{Here, scopes_at, Reached, Refuses}
 use Rattle.commands.specs.Runs.{Deep, Start, Comes, Halts, Runs}
 
@@ -24,7 +24,7 @@ use Rattle.commands.specs.Runs.{Deep, Start, Comes, Halts, Runs}
 told : (f : Fault) (q : Cause) (p : ℕ) → f.cause ≡ q → f.place ≡ p → refused q p ≡ refused f.cause f.place
 told f q p c e = ap (λ w. refused w p) (sym c) ∙ ap (refused f.cause) (sym e)
 
-pub begun : (start : Start) (a : Here) → Comes start a start a.cursor
+pub begun : (start : Start) (a : Here) → Comes start a start a.from.cursor.now
 begun start a = record { path = λ room k deep. refl }
 
 module _ {start : Start} {a : Here} {σ : Start} {c : Cursor} (x : Comes start a σ c) where
@@ -59,13 +59,13 @@ module _ {start : Start} {a : Here} {σ : Start} {c : Cursor} (x : Comes start a
       then_breaks g b = record { refuses = λ room k deep. x.path room k deep ∙ Judging.breaks_off room c (scopes_at a) (σ k) t (f k) i (h k) (scopes_at a) (f' k) (s room k) g b }
 
 -- an expression is due
-module _ {start : Start} {a : Here} {c : Cursor} (frame : CommandIn → ExpressionIn) (x : Comes start a (λ k u. at (want_simple (left_of (frame k)))) c) (l : Listing) (es : List Entry) (n : ℕ)
+module _ {start : Start} {a : Here} (c : Translation) (frame : CommandIn → ExpressionIn) (x : Comes start a (λ k u. at (want_simple (left_of (frame k)))) c.cursor.now) (es : List Entry) (n : ℕ)
     (deep : (k : CommandIn) → Deep a k → pred (length (scopes_at a)) + levels_of_expression (frame k) ≡ n) where
   abbrev pub inside : Here
-  inside = record { cursor = c; listing = l; levels = a.levels; entries = es; depth = n }
+  inside = record { from = c; levels = a.levels; entries = es; depth = n }
 
-  pub then_expression : (y : Ty) (d : Cursor) (m : Listing) (z : Reached expression (whole expression) inside y d m) → Comes start a (λ k u. settle_expression u z.exp y (frame k)) d
-  then_expression y d m z = record { path = λ room k h. x.path room k h ∙ z.moves room (frame k) (deep k h) }
+  pub then_expression : (y : Ty) (d : Translation) (z : Reached expression (whole expression) inside y d) → Comes start a (λ k u. settle_expression u z.exp y (frame k)) d.cursor.now
+  then_expression y d z = record { path = λ room k h. x.path room k h ∙ z.moves room (frame k) (deep k h) }
 
   pub then_refused : (f : Fault) → Refuses expression inside f → Halts start a f
   then_refused f z = record { refuses = λ room k h. x.path room k h ∙ z.refuses room (frame k) (deep k h) }
@@ -73,36 +73,21 @@ module _ {start : Start} {a : Here} {c : Cursor} (frame : CommandIn → Expressi
 -- ── one translation behind another ──────────────────────────────────────────────────────────
 
 -- a start that the token ahead makes the same
-pub from_start : (start start' : Start) (a : Here) → ((k : CommandIn) → start k (ahead_of a.cursor) ≡ start' k (ahead_of a.cursor)) → (c : Cursor) (l : Listing) (r : Result (Unit {0}) Fault) → Runs start' a c l r → Runs start a c l r
-from_start start start' a h c l (Ok u) x =
-    record {
-      cmd = x.cmd;
-      lists = x.lists;
-      comes = record { path = λ room k deep. Judging.same room a.cursor (scopes_at a) (start k) (start' k) (h k) ∙ x.comes.path room k deep };
-      fine = x.fine;
-      text = x.text;
-      same = x.same;
-    }
-from_start start start' a h c l (Err f) x =
-    record { refuses = λ room k deep. Judging.same room a.cursor (scopes_at a) (start k) (start' k) (h k) ∙ x.refuses room k deep }
+pub from_start : (start start' : Start) (a : Here) → ((k : CommandIn) → start k (ahead_of a.from.cursor.now) ≡ start' k (ahead_of a.from.cursor.now)) → (c : Translation) (r : Result (Unit {0}) Fault) → Runs start' a c r → Runs start a c r
+from_start start start' a h c (Ok u) x =
+    record { cmd = x.cmd; lists = x.lists; comes = record { path = λ room k deep. Judging.same room a.from.cursor.now (scopes_at a) (start k) (start' k) (h k) ∙ x.comes.path room k deep } }
+from_start start start' a h c (Err f) x =
+    record { refuses = λ room k deep. Judging.same room a.from.cursor.now (scopes_at a) (start k) (start' k) (h k) ∙ x.refuses room k deep }
 
--- what is translated from where the judge has come to
-pub continue : (start : Start) (a : Here) (σ : Start) (b : Cursor) → Comes start a σ b → text_of b ≡ text_of a.cursor → (c : Cursor) (l : Listing) (r : Result (Unit {0}) Fault) →
-    Runs σ (record { cursor = b; listing = a.listing; levels = a.levels; entries = a.entries; depth = a.depth }) c l r → Runs start a c l r
-continue start a σ b x e c l (Ok u) y =
-    record {
-      cmd = y.cmd;
-      lists = y.lists;
-      comes = record { path = λ room k deep. x.path room k deep ∙ y.comes.path room k deep };
-      fine = y.fine;
-      text = y.text ∙ e;
-      same = y.same;
-    }
-continue start a σ b x e c l (Err f) y = record { refuses = λ room k deep. x.path room k deep ∙ y.refuses room k deep }
+module _ {start : Start} {a : Here} {σ : Start} (b : Translation) (x : Comes start a σ b.cursor.now) where
+  -- what is translated from where the judge has come to
+  pub continue : (c : Translation) (r : Result (Unit {0}) Fault) → Runs σ (record { from = b; levels = a.levels; entries = a.entries; depth = a.depth }) c r → Runs start a c r
+  continue c (Ok u) y = record { cmd = y.cmd; lists = y.lists; comes = record { path = λ room k deep. x.path room k deep ∙ y.comes.path room k deep } }
+  continue c (Err f) y = record { refuses = λ room k deep. x.path room k deep ∙ y.refuses room k deep }
 
--- what is refused from where the judge has come to
-pub then_halted : (start : Start) (a : Here) (σ : Start) (b : Cursor) (l : Listing) (es : List Entry) → Comes start a σ b → (f : Fault) → Halts σ (record { cursor = b; listing = l; levels = a.levels; entries = es; depth = a.depth }) f → Halts start a f
-then_halted start a σ b l es x f y = record { refuses = λ room k deep. x.path room k deep ∙ y.refuses room k deep }
+  -- what is refused from where the judge has come to
+  pub then_halted : (f : Fault) → Halts σ (record { from = b; levels = a.levels; entries = a.entries; depth = a.depth }) f → Halts start a f
+  then_halted f y = record { refuses = λ room k deep. x.path room k deep ∙ y.refuses room k deep }
 
-pub then_comes : (start : Start) (a : Here) (σ : Start) (b : Cursor) (l : Listing) (es : List Entry) → Comes start a σ b → (σ' : Start) (c : Cursor) → Comes σ (record { cursor = b; listing = l; levels = a.levels; entries = es; depth = a.depth }) σ' c → Comes start a σ' c
-then_comes start a σ b l es x σ' c y = record { path = λ room k deep. x.path room k deep ∙ y.path room k deep }
+  pub then_comes : (σ' : Start) (c : Cursor) → Comes σ (record { from = b; levels = a.levels; entries = a.entries; depth = a.depth }) σ' c → Comes start a σ' c
+  then_comes σ' c y = record { path = λ room k deep. x.path room k deep ∙ y.path room k deep }

@@ -3,3 +3,4 @@ pub mod Coming
 pub mod Setting
 pub mod Values
 pub mod Testing
+pub mod Reading

@@ -19,14 +19,13 @@ use Rattle.model.specs.Judged.{on}
 use Rattle.model.specs.Judge.{shift, refused}
 use Rattle.model.specs.Code.{of_exp, of_cmd, cell_of}
 use Rattle.cursor.specs.declared.Cursor.{Cursor}
-use Rattle.cursor.specs.Rests.{text_of, rest_of, ahead_of, place_of, Fine}
+use Rattle.cursor.specs.Rests.{rest_of, ahead_of, place_of}
 use Rattle.cursor.specs.Onward.{onward}
-use Rattle.listing.specs.declared.Listing.{Listing}
-use Rattle.listing.specs.Listings.{Lists, SameTable}
-use Rattle.scopes.specs.declared.Scopes.{Scopes}
+use Rattle.listing.specs.Listings.{Lists, is_over}
 use Rattle.scopes.specs.Levels.{Level, laid_of_all, Matches}
 use Rattle.commands.specs.declared.Target.{Target}
-use Rattle.expressions.specs.Says.{Here, here, scopes_at, laid_at, Stands, Further}
+use Rattle.expressions.specs.declared.Translation.{Translation}
+use Rattle.expressions.specs.Says.{Here, here, scopes_at, laid_at, Stands, Went, Kept}
 
 -- a context is as deep as the call says
 abbrev pub Deep : Here → CommandIn → Type 0
@@ -42,46 +41,44 @@ wanted k t = at (want_command k)
 
 -- from the start, the judge has come to σ with this cursor, whatever stands around the command
 pub record Comes (start : Start) (a : Here) (σ : Start) (c : Cursor) : Type 0 where
-  pub path : (room : ℕ) (k : CommandIn) → Deep a k → onward room (rest_of a.cursor) (scopes_at a) (start k) ≡ onward room (rest_of c) (scopes_at a) (σ k)
+  pub path : (room : ℕ) (k : CommandIn) → Deep a k → onward room (rest_of a.from.cursor.now) (scopes_at a) (start k) ≡ onward room (rest_of c) (scopes_at a) (σ k)
 
 -- a command was translated
-pub record Done (start : Start) (a : Here) (c : Cursor) (l : Listing) : Type 0 where
+pub record Done (start : Start) (a : Here) (c : Translation) : Type 0 where
   pub cmd : Cmd
-  pub lists : Lists l (a.entries ++ of_cmd (laid_at a) (length a.entries) cmd)
-  pub comes : Comes start a (λ k t. settle_command t cmd k) c
-  pub fine : Fine c
-  pub text : text_of c ≡ text_of a.cursor
-  pub same : SameTable a.listing l
+  pub lists : Lists c.listing.now (a.entries ++ of_cmd (laid_at a) (length a.entries) cmd)
+  pub comes : Comes start a (λ k t. settle_command t cmd k) c.cursor.now
 
 -- the judge refuses the text
 pub record Halts (start : Start) (a : Here) (f : Fault) : Type 0 where
-  pub refuses : (room : ℕ) (k : CommandIn) → Deep a k → onward room (rest_of a.cursor) (scopes_at a) (start k) ≡ refused f.cause f.place
+  pub refuses : (room : ℕ) (k : CommandIn) → Deep a k → onward room (rest_of a.from.cursor.now) (scopes_at a) (start k) ≡ refused f.cause f.place
 
-abbrev pub Runs : Start → Here → Cursor → Listing → Result (Unit {0}) Fault → Type 0
-Runs start a c l (Ok u) = Done start a c l
-Runs start a c l (Err f) = Halts start a f
+abbrev pub Runs : Start → Here → Translation → Result (Unit {0}) Fault → Type 0
+Runs start a c (Ok u) = Done start a c
+Runs start a c (Err f) = Halts start a f
 
--- where nothing was refused, tokens were taken
-abbrev pub Went : Cursor → Result (Unit {0}) Fault → Cursor → Type 0
-Went b (Ok u) c = Further b c
-Went b (Err f) c = Unit {0}
+-- tokens were taken where nothing was refused, and what is lent is kept
+pub record Passed {A : Type 0} (b : Translation) (c : Translation) (r : Result A Fault) : Type 0 where
+  pub went : Went b r c
+  pub kept : Kept b c
 
 -- whatever blocks are open and whatever entries were laid, the command is translated
-abbrev pub Translates : Start → Scopes → Cursor → Listing → ℕ → Cursor → Listing → Result (Unit {0}) Fault → Type 0
-Translates start names b l n c m r = (os : List Level) (es : List Entry) → Stands names (here b l n os es) → Runs start (here b l n os es) c m r
+pub record Translates (start : Start) (b : Translation) (n : ℕ) (c : Translation) (r : Result (Unit {0}) Fault) : Type 0 where
+  pub says : (os : List Level) (es : List Entry) → Stands (here b n os es) → Runs start (here b n os es) c r
+  pub went : Went b r c
 
 -- ── commands that begin with a name ─────────────────────────────────────────────────────────
 
 -- what stands at place p is set, whose cell is that of f
-abbrev pub Assigns : Found → ℕ → Ty → ℕ → Scopes → Cursor → Listing → ℕ → Cursor → Listing → Result (Unit {0}) Fault → Type 0
-Assigns f cell y p names b l n c m r =
-    (os : List Level) (es : List Entry) → Stands names (here b l n os es) → cell ≡ cell_of (laid_of_all os) f → Runs (λ k t. at (to_assign p f y k)) (here b l n os es) c m r
+abbrev pub Assigns : Found → ℕ → Ty → ℕ → Translation → ℕ → Translation → Result (Unit {0}) Fault → Type 0
+Assigns f cell y p b n c r =
+    (os : List Level) (es : List Entry) → Stands (here b n os es) → cell ≡ cell_of (laid_of_all os) f → Runs (λ k t. at (to_assign p f y k)) (here b n os es) c r
 
 -- behind the name at place p, whose record matches the declaration that the judge found
-abbrev pub GoesOn : Name → ℕ → Scopes → Cursor → Listing → ℕ → Cursor → Listing → Result (Unit {0}) Fault → Type 0
-GoesOn v p names b l n c m r =
-    (os : List Level) (es : List Entry) (d : Seen) → Stands names (here b l n os es) → Matches (laid_of_all os) l.over (Some v) (some d) →
-    Runs (λ k t. settle t (past_name p d.kind d.hops d.inside k)) (here b l n os es) c m r
+abbrev pub GoesOn : Name → ℕ → Translation → ℕ → Translation → Result (Unit {0}) Fault → Type 0
+GoesOn v p b n c r =
+    (os : List Level) (es : List Entry) (d : Seen) → Stands (here b n os es) → Matches (laid_of_all os) (is_over b.listing.now) (Some v) (some d) →
+    Runs (λ k t. settle t (past_name p d.kind d.hops d.inside k)) (here b n os es) c r
 
 -- ── `leia` and `escreva` ────────────────────────────────────────────────────────────────────
 
@@ -102,6 +99,10 @@ abbrev pub closes : Way → ℕ → ℕ → Found → CommandIn → Focus
 closes reads p q f k = leia_close p q f k
 closes writes p q f k = escreva_close p q f k
 
+abbrev pub keyword_of : Way → Word
+keyword_of reads = Words.Leia
+keyword_of writes = Words.Escreva
+
 abbrev pub command_of : Way → ℕ → ℕ → Found → Cmd
 command_of reads p q f = Tree.leia p q f
 command_of writes p q f = Tree.escreva p q f
@@ -116,30 +117,33 @@ pub record CellFound (w : Way) (p : ℕ) (a : Here) (cell : ℕ) : Type 0 where
   pub found : Found
   pub is : cell ≡ cell_of (laid_at a) found
   pub token : Token
-  pub ahead : ahead_of a.cursor ≡ some token
-  pub shifts : (room : ℕ) (k : CommandIn) → shift room (scopes_at a) token (place_of a.cursor) (names w p k) ≡ on (scopes_at a) (closes w p (place_of a.cursor) found k)
+  pub ahead : ahead_of a.from.cursor.now ≡ some token
+  pub shifts : (room : ℕ) (k : CommandIn) → shift room (scopes_at a) token (place_of a.from.cursor.now) (names w p k) ≡ on (scopes_at a) (closes w p (place_of a.from.cursor.now) found k)
 
-abbrev pub Cells : Way → ℕ → Here → Result ℕ Fault → Type 0
-Cells w p a (Ok v) = CellFound w p a v
-Cells w p a (Err f) = Halts (λ k t. at (names w p k)) a f
+abbrev pub CellIn : Way → ℕ → Here → Result ℕ Fault → Type 0
+CellIn w p a (Ok v) = CellFound w p a v
+CellIn w p a (Err f) = Halts (λ k t. at (names w p k)) a f
+
+-- whichever of the two it is, and whatever blocks are open
+abbrev pub Cells : Translation → Result ℕ Fault → Type 0
+Cells b r = (w : Way) (p n : ℕ) (os : List Level) (es : List Entry) → Stands (here b n os es) → CellIn w p (here b n os es) r
 
 abbrev pub IsThere : Cursor → Result ℕ Fault → Type 0
 IsThere c (Ok v) = Present (ahead_of c)
 IsThere c (Err f) = Unit {0}
 
 -- the variable in the brackets, and how the judge went on behind them
-pub record Named (w : Way) (p : ℕ) (a : Here) (v : Target) (c : Cursor) : Type 0 where
+pub record Named (w : Way) (p : ℕ) (a : Here) (v : Target) (c : Translation) : Type 0 where
   pub found : Found
   pub cell : v.cell ≡ cell_of (laid_at a) found
-  pub comes : Comes (λ k t. at (opens w p k)) a (λ k t. settle_command t (command_of w p v.place found) k) c
+  pub comes : Comes (λ k t. at (opens w p k)) a (λ k t. settle_command t (command_of w p v.place found) k) c.cursor.now
 
-abbrev pub Names : Way → ℕ → Here → Cursor → Result Target Fault → Type 0
-Names w p a c (Ok v) = Named w p a v c
-Names w p a c (Err f) = Halts (λ k t. at (opens w p k)) a f
+abbrev pub NameIn : Way → ℕ → Here → Translation → Result Target Fault → Type 0
+NameIn w p a c (Ok v) = Named w p a v c
+NameIn w p a c (Err f) = Halts (λ k t. at (opens w p k)) a f
 
-abbrev pub WentTo : Cursor → Result Target Fault → Cursor → Type 0
-WentTo b (Ok v) c = Further b c
-WentTo b (Err f) c = Unit {0}
+abbrev pub Names : Translation → Translation → Result Target Fault → Type 0
+Names b c r = (w : Way) (p n : ℕ) (os : List Level) (es : List Entry) → Stands (here b n os es) → NameIn w p (here b n os es) c r
 
 -- ── conditions ──────────────────────────────────────────────────────────────────────────────
 
@@ -165,14 +169,15 @@ abbrev pub testing : Test → ℕ → Start
 testing w p k t = at (want_simple (left_of (test_in w p k)))
 
 -- a condition was translated, and the word behind it taken
-pub record Tested (w : Test) (p : ℕ) (a : Here) (c : Cursor) (l : Listing) : Type 0 where
+pub record Tested (w : Test) (p : ℕ) (a : Here) (c : Translation) : Type 0 where
   pub exp : Exp
-  pub lists : Lists l (a.entries ++ of_exp (laid_at a) exp)
-  pub comes : Comes (testing w p) a (λ k t. at (want_command (then_in w p exp k))) c
-  pub fine : Fine c
-  pub text : text_of c ≡ text_of a.cursor
-  pub same : SameTable a.listing l
+  pub lists : Lists c.listing.now (a.entries ++ of_exp (laid_at a) exp)
+  pub comes : Comes (testing w p) a (λ k t. at (want_command (then_in w p exp k))) c.cursor.now
 
-abbrev pub Tests : Test → ℕ → Here → Cursor → Listing → Result (Unit {0}) Fault → Type 0
-Tests w p a c l (Ok u) = Tested w p a c l
-Tests w p a c l (Err f) = Halts (testing w p) a f
+abbrev pub TestIn : Test → ℕ → Here → Translation → Result (Unit {0}) Fault → Type 0
+TestIn w p a c (Ok u) = Tested w p a c
+TestIn w p a c (Err f) = Halts (testing w p) a f
+
+-- whichever of the two it is, and whatever blocks are open; the condition is one level further in
+abbrev pub Tests : Word → Translation → ℕ → Translation → Result (Unit {0}) Fault → Type 0
+Tests word b inside c r = (w : Test) (p n : ℕ) (os : List Level) (es : List Entry) → word ≡ word_of w → inside ≡ n + 1 → Stands (here b n os es) → TestIn w p (here b n os es) c r

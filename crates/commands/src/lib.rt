@@ -1,6 +1,7 @@
 //! Commands that hold no other command: assignments, calls of procedures, `leia` and `escreva`; and conditions.
 #![tactic(auto)]
 
+pub mod apart;
 mod conditions;
 mod leading;
 mod passing;

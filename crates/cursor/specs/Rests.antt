@@ -28,9 +28,12 @@ from_lexeme text s None = ends (length text)
 abbrev pub rest_of : Cursor → Stream
 rest_of c = from_lexeme (text_of c) (stream_of c.reader) c.ahead
 
--- what stands behind the token ahead
+-- what stands behind the token ahead, and how far it is to its end
 abbrev pub behind : Cursor → Stream
 behind c = stream_of c.reader
+
+abbrev pub left_behind : Cursor → ℕ
+left_behind c = left_of c.reader
 
 abbrev pub next_of : Maybe Lexeme → Next
 next_of (Some l) = some (token_of l.token)
@@ -91,5 +94,5 @@ stray none = Causes.Grammar TextEnded
 
 -- the token ahead is taken: the next one is ahead, or the reader breaks off
 abbrev pub Takes : Cursor → Result (Unit {0}) Fault → Cursor → Type 0
-Takes c (Ok u) d = (rest_of d ≡ behind c) × (left d ≤ left_of c.reader) × Fine d × (text_of d ≡ text_of c)
+Takes c (Ok u) d = (rest_of d ≡ behind c) × (left d ≤ left_behind c) × Fine d × (text_of d ≡ text_of c)
 Takes c (Err f) d = Breaks (behind c) f

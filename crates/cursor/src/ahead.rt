@@ -6,12 +6,9 @@ ghost use Rattle.cursor.specs.Rests.{text_of, behind, ahead_of, place_of, token_
 ghost use Rattle.model.specs.declared.faults.GrammarFault.TheVariants.{TooDeep};
 
 use super::Cursor;
-use model::faults::{Fault, GrammarFault, MeaningFault, Placed};
+use model::faults::{Cause, Fault, GrammarFault, MeaningFault, Placed};
 use reader::Reader;
 use reader::tokens::Token;
-
-// The places of a text that is not too long are at most this.
-const LONGEST: usize = 65535;
 
 impl<'a> Cursor<'a> {
     /// Before the first token of a text, which `advance` brings.
@@ -37,56 +34,51 @@ impl<'a> Cursor<'a> {
         ensures is { token_ahead result ≡ ahead_of self.now }
         ensures fine { Fine self.now → FineToken (text_of self.now) (place_of self.now) result }
     {
-        match self.ahead {
-            Some(lexeme) => Some(lexeme.token),
-            None => None,
-        }
+        self.ahead.map(|lexeme| lexeme.token)
     }
 
     /// Its place, or the text's length.
     pub fn place(&self) -> usize
         ensures { result ≡ place_of self.now }
     {
-        match self.ahead {
-            Some(lexeme) => lexeme.place,
-            None => self.reader.text_len(),
-        }
+        self.ahead
+            .map_or(self.reader.text_len(), |lexeme| lexeme.place)
     }
 
     /// Its place as an entry holds it: exact in a text of at most 65,535 bytes.
     pub fn entry_place(&self) -> u16
         ensures { place_of self.now ≤ 65535 → result ≡ place_of self.now }
     {
-        let place = self.place();
-        if place > LONGEST { 0 } else { place as u16 }
+        u16::try_from(self.place()).unwrap_or(0)
     }
 
     /// The fault of a token that may not stand here, or of a text that ends too early.
     pub fn unexpected(&self) -> Fault
         ensures { (result.cause ≡ stray (ahead_of self.now)) × (result.place ≡ place_of self.now) }
     {
-        let fault = match self.ahead {
+        self.fault(match self.ahead {
             Some(_) => GrammarFault::NotAdmitted,
             None => GrammarFault::TextEnded,
-        };
-        let place = self.place();
-        Fault::from(Placed { fault, place })
+        })
     }
 
     /// The fault of one level too many at the token ahead.
     pub fn too_deep(&self) -> Fault
         ensures { (result.cause ≡ Causes.Grammar TooDeep) × (result.place ≡ place_of self.now) }
     {
-        let place = self.place();
-        Fault::from(Placed {
-            fault: GrammarFault::TooDeep,
-            place,
-        })
+        self.fault(GrammarFault::TooDeep)
     }
 
     /// A fault of names or types at the token ahead.
     pub fn wrong(&self, fault: MeaningFault) -> Fault
         ensures { (result.cause ≡ Causes.Meaning fault) × (result.place ≡ place_of self.now) }
+    {
+        self.fault(fault)
+    }
+
+    // The fault of a layer at the token ahead.
+    fn fault<F: Into<Cause>>(&self, fault: F) -> Fault
+        ensures { F.converts fault result.cause × (result.place ≡ place_of self.now) }
     {
         let place = self.place();
         Fault::from(Placed { fault, place })

@@ -1,5 +1,5 @@
 -- The token ahead: its place, and which tokens are none of the operators.
-use Rattle.std.proofs.Common.{◌≡◌, ℕ, suc, ◌<◌, ◌≤◌, true, false, eqb, List, [], ◌∷◌, length, Some, None, Option as Maybe, sym, refl, ap, ◌∙◌, subst, ⊎_elim, true≢false, arith, eqb-true}
+use Rattle.std.proofs.Common.{◌≡◌, ℕ, suc, ◌<◌, ◌≤◌, true, false, eqb, List, [], ◌∷◌, length, Some, None, Option as Maybe, sym, refl, ap, ◌∙◌, ⊎_elim, true≢false, arith, eqb-true}
 use mathlib.Core.Option.{Option, none, some}
 use Rattle.std.proofs.lemmas.Bool.{cases_Bool}
 use Rattle.model.specs.declared.tokens.Sign.{Sign}
@@ -7,16 +7,13 @@ use Rattle.model.specs.declared.tokens.Word.{Word}
 use Rattle.model.specs.declared.script.Operator.{Operator}
 use Rattle.model.specs.declared.script.Operator.TheVariants as Operators
 use Rattle.model.specs.Reading.{pick}
-use Rattle.model.specs.Tokens.{Token, number}
-use Rattle.reader.specs.declared.tokens.Token.{Token as ReaderToken}
-use Rattle.reader.specs.declared.tokens.Token.TheVariants.{Number}
-use Rattle.reader.specs.Pieces.{token_of, Small}
+use Rattle.model.specs.Tokens.{Token}
 use Rattle.model.specs.Ahead.{Next, next_number, is_sign, is_word}
-use Rattle.model.specs.Ahead.{multiplying, adding, comparing}
+use Rattle.model.specs.Ahead.{adding, comparing}
 use Rattle.reader.specs.declared.tokens.Lexeme.{Lexeme}
 use Rattle.reader.specs.Streams.{left_of}
 use Rattle.cursor.specs.declared.Cursor.{Cursor}
-use Rattle.cursor.specs.Rests.{text_of, ahead_of, next_of, place_of, place_from, left, left_from, token_ahead, Fine, FineFrom, FineToken}
+use Rattle.cursor.specs.Rests.{text_of, ahead_of, next_of, place_of, place_from, left, left_from, Fine, FineFrom}
 
 -- ── places ──────────────────────────────────────────────────────────────────────────────────
 
@@ -48,28 +45,11 @@ there (some t) h = record { token = t; is = refl }
 pub operator_there : (ops : Next → Option Operator) → ops none ≡ none → (n : Next) (o : Operator) → some o ≡ ops n → There n
 operator_there ops z n o e = there n (λ i. let q : some o ≡ none = e ∙ ap ops i ∙ z in let w : ◌≡◌ {A = ℕ} 0 1 = cc in omega arith)
 
-pub multiplying_there : (n : Next) (o : Operator) → some o ≡ multiplying n → There n
-multiplying_there = operator_there multiplying refl
-
-pub adding_there : (n : Next) (o : Operator) → some o ≡ adding n → There n
-adding_there = operator_there adding refl
-
-pub comparing_there : (n : Next) (o : Operator) → some o ≡ comparing n → There n
-comparing_there = operator_there comparing refl
-
 pub sign_there : (g : Sign) → is_sign g none ≡ false → (n : Next) → is_sign g n ≡ true → There n
 sign_there g z n e = there n (λ i. true≢false (sym e ∙ ap (is_sign g) i ∙ z))
 
 pub word_there : (w : Word) → is_word w none ≡ false → (n : Next) → is_word w n ≡ true → There n
 word_there w z n e = there n (λ i. true≢false (sym e ∙ ap (is_word w) i ∙ z))
-
--- ── numbers ─────────────────────────────────────────────────────────────────────────────────
-
-pub number_ahead : (u : ReaderToken) (v : ℕ) (n : Next) → u ≡ Number v → token_ahead (Some u) ≡ n → n ≡ some (number v)
-number_ahead u v n e h = sym h ∙ ap (λ w. some (token_of w)) e
-
-pub number_small : (text : List ℕ) (p : ℕ) (u : ReaderToken) (v : ℕ) → u ≡ Number v → FineToken text p (Some u) → v ≤ 2147483647
-number_small text p u v e f = subst Small e f.0
 
 -- ── comparisons are no other operators ──────────────────────────────────────────────────────
 

@@ -1,6 +1,6 @@
 -- What a record says of the declaration that its name finds, by the record's kind.
-use Rattle.std.proofs.Common.{◌≡◌, ℕ, pred, Bool, true, false, List, Some, None, Option as Maybe, sym, refl, ap, ◌∙◌, arith}
-use mathlib.Core.Option.{Option, none, some}
+use Rattle.std.proofs.Common.{◌≡◌, ℕ, pred, Bool, true, false, List, Some, Option as Maybe, sym, refl, ap, ◌∙◌, arith}
+use mathlib.Core.Option.{Option, some}
 use Rattle.scopes.specs.declared.names.Name.{Name}
 use Rattle.model.specs.declared.names.NameKind.{NameKind}
 use Rattle.model.specs.declared.names.NameKind.TheVariants.{Nothing, Variable, Procedure, Function}
@@ -44,12 +44,6 @@ module _ (ls : List Laid) (over : Bool) where
   apart : (n n' : Name) (k k' : NameKind) → n'.kind ≡ k' → n' ≡ n → n.kind ≡ k → kind_number k' ≡ kind_number k
   apart n n' k k' e s f = ap kind_number (sym e ∙ ap (λ x. x.kind) s ∙ f)
 
-  pub unseen : (m : Maybe Name) (d : Option Seen) → Matches ls over m d → m ≡ None → d ≡ none
-  unseen m d neither q = refl
-  unseen m d (variables n y i h c e f) q = cc
-  unseen m d (procedures n w h c e f) q = cc
-  unseen m d (functions n y w h c e f g j) q = cc
-
   module _ (n : Name) where
     pub variable_seen : (m : Maybe Name) (d : Option Seen) → Matches ls over m d → m ≡ Some n → (y : Ty) → n.kind ≡ Variable y → VariableSeen n y d
     variable_seen m d neither q y k = let z : ◌≡◌ {A = ℕ} 0 1 = cc in absurd (omega arith)
@@ -85,10 +79,3 @@ module _ (ls : List Laid) (over : Bool) where
     procedure_seen m d (procedures n' w h c e f) q k =
         let s : n' ≡ n = cc in record { index = w; hops = h; inside = c; is = refl; entry = λ o. sym (ap (λ x. x.entry) s) ∙ f o }
     procedure_seen m d (functions n' y' w h c e f g j) q k = let s : n' ≡ n = cc in absurd (omega (arith, apart n n' Procedure (Function y') e s k))
-
-    -- a record of an open block is not blank
-    pub never_blank : (m : Maybe Name) (d : Option Seen) → Matches ls over m d → m ≡ Some n → n.kind ≡ Nothing → ⊥
-    never_blank m d neither q k = let z : ◌≡◌ {A = ℕ} 0 1 = cc in omega arith
-    never_blank m d (variables n' y' i h c e f) q k = let s : n' ≡ n = cc in omega (arith, apart n n' Nothing (Variable y') e s k)
-    never_blank m d (procedures n' w h c e f) q k = let s : n' ≡ n = cc in omega (arith, apart n n' Nothing Procedure e s k)
-    never_blank m d (functions n' y' w h c e f g j) q k = let s : n' ≡ n = cc in omega (arith, apart n n' Nothing (Function y') e s k)

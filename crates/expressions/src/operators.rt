@@ -1,29 +1,31 @@
-//! Operators: their codes, and the types that they take and yield.
+//! Operators: the rows that they stand in, and the types that they take and yield.
 ghost use Rattle.std.specs.Prelude.{◌≡◌};
-ghost use Rattle.model.specs.Code.{op_code};
 ghost use Rattle.model.specs.Types.{is_inteiro};
+ghost use Rattle.reader.specs.Pieces.{found};
+ghost use Rattle.cursor.specs.Rests.{ahead_of};
 ghost use Rattle.expressions.specs.Parts.{yields};
+ghost use Rattle.expressions.specs.Rows.{between};
 
-use model::codes;
+use cursor::Cursor;
 use model::script::{Operator, Ty};
 
-/// The code of an operator's instruction.
-pub(crate) fn code_of(operator: Operator) -> u8
-    ensures { result ≡ op_code operator }
-{
-    match operator {
-        Operator::Add => codes::ADD,
-        Operator::Sub => codes::SUB,
-        Operator::Mult => codes::MULT,
-        Operator::Divi => codes::DIVI,
-        Operator::And => codes::AND,
-        Operator::Or => codes::OR,
-        Operator::Less => codes::CME,
-        Operator::Greater => codes::CMA,
-        Operator::Equal => codes::CEQ,
-        Operator::Unequal => codes::CDIF,
-        Operator::AtMost => codes::CMEQ,
-        Operator::AtLeast => codes::CMAQ,
+/// Parts with operators between them: a simple expression is a row of terms, a term a row of factors.
+// An enum, and no closures: in a ring of calls each would need a clause of its own that fewer tokens are left.
+#[derive(Clone, Copy)]
+pub(crate) enum Row {
+    Terms,
+    Factors,
+}
+
+impl Row {
+    /// The operator of the row that the token ahead is.
+    pub(crate) fn operator(self, cursor: &Cursor) -> Option<Operator>
+        ensures { found result ≡ between self (ahead_of cursor.now) }
+    {
+        match self {
+            Row::Terms => cursor.adding(),
+            Row::Factors => cursor.multiplying(),
+        }
     }
 }
 
@@ -45,19 +47,8 @@ pub(crate) fn yielded(operator: Operator, left: Ty, right: Ty) -> Option<Ty>
             | Operator::Unequal
             | Operator::AtMost
             | Operator::AtLeast,
-            Ty::Inteiro,
-            Ty::Inteiro,
-        ) => Some(Ty::Booleano),
-        (
-            Operator::Less
-            | Operator::Greater
-            | Operator::Equal
-            | Operator::Unequal
-            | Operator::AtMost
-            | Operator::AtLeast,
-            Ty::Booleano,
-            Ty::Booleano,
-        ) => Some(Ty::Booleano),
+            ..
+        ) if left == right => Some(Ty::Booleano),
         _ => None,
     }
 }
@@ -66,8 +57,5 @@ pub(crate) fn yielded(operator: Operator, left: Ty, right: Ty) -> Option<Ty>
 pub fn is_inteiro(ty: Ty) -> bool
     ensures { result ≡ is_inteiro ty }
 {
-    match ty {
-        Ty::Inteiro => true,
-        Ty::Booleano => false,
-    }
+    ty == Ty::Inteiro
 }

@@ -8,45 +8,33 @@ ghost use Rattle.faithful.specs.Faithful.{Faithful, SameOrFull, EveryMoment, Nev
 
 /// Where the person ends, so does the table; where the person meets a fault, the table stops by it, at an entry of
 /// that place; where the person has no turn left, the table has made a step for each turn. The host means the same.
-pub fn table_does_what_the_person_does() -> u8
+pub fn table_does_what_the_person_does()
     ensures { Faithful }
-{
-    0
-}
+{}
 
 /// With fewer cells the table does the same, or stops for want of them, with a front of what the person takes and
 /// writes.
-pub fn fewer_cells_give_the_same_or_a_full_stop() -> u8
+pub fn fewer_cells_give_the_same_or_a_full_stop()
     ensures { SameOrFull }
-{
-    0
-}
+{}
 
 /// After every budget, with however many cells, what was taken and written is a front of the person's list, and an
 /// end or fault that is told is the person's, or the want of cells.
-pub fn every_moment_is_the_persons() -> u8
+pub fn every_moment_is_the_persons()
     ensures { EveryMoment }
-{
-    0
-}
+{}
 
 /// No run of a script's table stops by a fault of the table's.
-pub fn no_run_meets_an_unsound_table() -> u8
+pub fn no_run_meets_an_unsound_table()
     ensures { NeverUnsound }
-{
-    0
-}
+{}
 
 /// A text is one script, however many names there may be.
-pub fn a_text_is_one_script() -> u8
+pub fn a_text_is_one_script()
     ensures { OneScript }
-{
-    0
-}
+{}
 
 /// With more turns the person gets at least as far, and an end or a fault stays what it was.
-pub fn more_turns_change_no_end_and_no_fault() -> u8
+pub fn more_turns_change_no_end_and_no_fault()
     ensures { MoreTurns }
-{
-    0
-}
+{}

@@ -1,16 +1,7 @@
 -- A list whose front is written a piece at a time over what it held.
-use Rattle.std.proofs.Common.{◌≡◌, ℕ, zero, suc, ◌+◌, ◌-◌, ◌≤◌, min, List, [], ◌∷◌, ◌++◌, length, take, drop, sym, refl, ap, ◌∙◌, inl, inr, arith}
-use Rattle.std.proofs.lemmas.List.{take-append-drop, take_all, length-take-le, drop-drop, drop_at}
-use Rattle.std.proofs.lemmas.Bool.{cases_lt}
+use Rattle.std.proofs.Common.{◌≡◌, ℕ, zero, suc, ◌+◌, ◌-◌, ◌≤◌, List, [], ◌∷◌, ◌++◌, length, take, drop, sym, refl, ap, ◌∙◌, arith}
+use Rattle.std.proofs.lemmas.List.{take-append-drop, length-take-le, drop-drop, drop_at}
 use Rattle.host.specs.Memory.{over}
-
--- the front may be counted past the end
-pub take_capped : {A : Type 0} (k n : ℕ) (xs : List A) → k ≡ min n (length xs) → take k xs ≡ take n xs
-take_capped k n xs e =
-    elim (cases_lt n (length xs)) [
-      | inl h ↦ let f : k ≡ n = omega arith in rw f
-      | inr h ↦ take_all k xs (omega arith) ∙ sym (take_all n xs h)
-    ]
 
 -- writing a list's own front over it changes nothing
 pub over_own_front : {A : Type 0} (n : ℕ) (xs : List A) → xs ≡ over (take n xs) xs

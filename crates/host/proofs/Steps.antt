@@ -1,13 +1,6 @@
 -- What a take and a put do to a meaning, from whether a value waits and whether there is room.
-use Rattle.std.proofs.Common.{◌≡◌, ℕ, suc, ◌+◌, List, [], ◌∷◌, ◌++◌, length, ℤ, Some, None, Ok, arith}
+use Rattle.std.proofs.Common.{◌≡◌, ℕ, suc, ◌+◌, List, [], ◌∷◌, ◌++◌, length, ℤ, Some, Ok, arith}
 use Rattle.host.specs.Meaning.{Meaning, take_answer, after_take, put_answer, after_put}
-
--- nothing waits
-pub none_where_none_waits : (m : Meaning) → m.waiting ≡ [] → None ≡ take_answer m
-none_where_none_waits m e = rw e
-
-pub same_where_none_waits : (m : Meaning) → m.waiting ≡ [] → m ≡ after_take m
-same_where_none_waits m e = rw e
 
 -- a value waits
 pub first_where_one_waits : (m : Meaning) (v : ℤ) (vs : List ℤ) → m.waiting ≡ v ∷ vs → Some v ≡ take_answer m

@@ -1,8 +1,23 @@
 -- What a host over lists means, and what its calls leave alone.
-use Rattle.std.specs.Prelude.{◌≡◌, ◌+◌, ◌-◌, length, take, drop}
+use Rattle.std.specs.Prelude.{◌≡◌, ℕ, ◌+◌, ◌-◌, List, length, take, drop, ℤ}
+use Rattle.std.specs.Borrow.{MutBor}
 use Rattle.host.specs.Meaning.{Meaning}
 use Rattle.host.specs.Memory.{over}
 use Rattle.host.specs.declared.lists.ListHost.{ListHost}
+
+-- the list that it takes from, how many values of that it took, and the list that it writes to
+abbrev pub list_source : ListHost → List ℤ
+list_source h = h.source.now
+
+abbrev pub list_taken : ListHost → ℕ
+list_taken h = h.taken
+
+abbrev pub list_sink : ListHost → List ℤ
+list_sink h = h.sink.now
+
+-- it writes to the memory that is lent here
+abbrev pub ListOver : MutBor (List ℤ) → ListHost → Type 0
+ListOver lent h = h.sink.ghost_name ≡ lent.ghost_name
 
 -- the values past those taken wait, the front of the sink is written, and what is left of the sink is room
 abbrev pub list_meaning : ListHost → Meaning

@@ -1,5 +1,6 @@
 -- What a host over tapes of bytes means, and what its calls leave alone.
 use Rattle.std.specs.Prelude.{◌≡◌, ℕ, ◌+◌, ◌-◌, ◌*◌, ◌/◌, ◌%◌, cond, List, [], ◌∷◌, ◌++◌, length, take, drop, ℤ, ◌==◌}
+use Rattle.std.specs.Borrow.{MutBor}
 use Rattle.std.specs.Int.{w32}
 use Rattle.std.proofs.Common.{to_z, of_z}
 use Rattle.host.specs.Meaning.{Meaning}
@@ -35,6 +36,20 @@ fives_of (m ∷ a ∷ []) = []
 fives_of (m ∷ a ∷ b ∷ []) = []
 fives_of (m ∷ a ∷ b ∷ c ∷ []) = []
 fives_of (m ∷ a ∷ b ∷ c ∷ d ∷ rest) = value_of a b c d ∷ fives_of rest
+
+-- the tape that it takes from, how many values of that it took, and the tape that it writes to
+abbrev pub tape_source : TapeHost → List ℕ
+tape_source h = h.source.now
+
+abbrev pub tape_taken : TapeHost → ℕ
+tape_taken h = h.taken
+
+abbrev pub tape_sink : TapeHost → List ℕ
+tape_sink h = h.sink.now
+
+-- it writes to the memory that is lent here
+abbrev pub TapeOver : MutBor (List ℕ) → TapeHost → Type 0
+TapeOver lent h = h.sink.ghost_name ≡ lent.ghost_name
 
 -- the bytes written
 abbrev pub tape_written : TapeHost → List ℕ

@@ -22,6 +22,7 @@ pub trait Host {
     /// What holds between an earlier moment of a host and a later one, as that it writes to the same memory.
     /// It lets a host that holds lent memory say what its lender gets back. By default it says nothing, so a host
     /// that holds none does not mention it.
+    // What runs over a host says in a clause that this stays: it relates two moments, so no field of one host could say it.
     ghost since: { Self → Self → Type 0 } = { λ _ _. Unit {0} };
 
     /// Removes and answers the first value that waits, or answers `None` and changes nothing where none waits.

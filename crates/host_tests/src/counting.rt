@@ -14,21 +14,17 @@ impl Host for Countdown {
     ghost meaning = { count_meaning };
 
     fn take(&mut self) -> Option<i32> {
-        if self.next == 0 {
-            return None;
-        }
-        let value = self.next as i32;
-        self.next -= 1;
+        let left = self.next.checked_sub(1)?;
+        let value = self.next.into();
+        self.next = left;
         Some(value)
     }
 
     fn put(&mut self, value: i32) -> Result<(), PutRefusal> {
-        match self.last {
-            Some(_) => Err(PutRefusal::Full),
-            None => {
-                self.last = Some(value);
-                Ok(())
-            }
+        if self.last.is_some() {
+            return Err(PutRefusal::Full);
         }
+        self.last = Some(value);
+        Ok(())
     }
 }

@@ -15,10 +15,8 @@ pub fn pass_one<H: Host>(host: &mut H) -> Result<(), PutRefusal>
     ensures after { H.Host.meaning host.new ≡ passed (H.Host.meaning host.old) }
     ensures stays { Stays H.Host.since host.old host.new }
 {
-    match host.take() {
-        Some(value) => host.put(value),
-        None => host.put(0),
-    }
+    let value = host.take().unwrap_or(0);
+    host.put(value)
 }
 
 /// Does that so many times, whether the values are accepted or not.
@@ -42,6 +40,7 @@ pub fn pass_listed<'a>(source: &'a [i32], sink: &'a mut [i32], times: u32) -> us
 }
 
 /// Passes values from tape to tape, and says how many it took.
+// Apart from `pass_listed`: what a lender gets back is another definition for each.
 pub fn pass_taped<'a>(source: &'a [u8], sink: &'a mut [u8], times: u32) -> usize
     ensures count { result + length (tape_passed times source.now sink.old).waiting ≡ length (values_of source.now) }
     ensures holds { sink.new ≡ over (tape_of (tape_passed times source.now sink.old).written) sink.old }

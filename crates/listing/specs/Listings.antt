@@ -1,14 +1,23 @@
 -- Which entries a listing stands for, where they fit and where they do not. Assumes nothing.
-use Rattle.std.specs.Prelude.{◌≡◌, ℕ, ◌<◌, ◌≤◌, min, true, false, List, length, take, Some, None, Option}
-use Rattle.pile.specs.Piles.{memory, front, SameLoan}
+use Rattle.std.specs.Prelude.{◌≡◌, ℕ, ◌<◌, ◌≤◌, min, Bool, true, false, List, length, take, Some, None, Option}
+use Rattle.std.specs.Borrow.{MutBor}
+use Rattle.pile.specs.Piles.{lent, memory, front, SameLoan}
 use Rattle.model.specs.declared.table.Entry.{Entry}
 use Rattle.model.specs.Code.{entry}
 use Rattle.listing.specs.declared.Listing.{Listing}
 use Rattle.listing.specs.declared.OpenJump.{OpenJump}
 
+-- the loan that the entries lie in
+abbrev pub loan_of : Listing → MutBor (List Entry)
+loan_of l = lent l.table
+
 -- the whole lent memory
 abbrev pub memory_of : Listing → List Entry
 memory_of l = memory l.table
+
+-- whether there were more entries than fit
+abbrev pub is_over : Listing → Bool
+is_over l = l.over
 
 -- how many entries fit
 abbrev pub limit : Listing → ℕ
@@ -31,9 +40,16 @@ Here l es n = Lists l es → l.over ≡ false → n ≡ length es
 abbrev pub Stands : OpenJump → Listing → List Entry → Type 0
 Stands j l m = l.over ≡ false → j.at ≡ length m
 
+-- the code and the place of its entry
+abbrev pub jump_code : OpenJump → ℕ
+jump_code j = j.code
+
+abbrev pub jump_place : OpenJump → ℕ
+jump_place j = j.place
+
 -- the entry of a jump, once its target is known
 abbrev pub jump_to : OpenJump → ℕ → Entry
-jump_to j n = entry j.code n 0 j.place
+jump_to j n = entry (jump_code j) n 0 (jump_place j)
 
 -- how many entries there are, unless they are too many
 abbrev pub Whole : Listing → List Entry → Option ℕ → Type 0

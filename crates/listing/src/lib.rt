@@ -5,29 +5,33 @@
 #![tactic(auto)]
 
 ghost use Rattle.std.specs.Prelude.{◌≡◌, ◌≤◌, List, [], ◌∷◌, ◌++◌, length, slice_set};
-ghost use Rattle.listing.specs.Listings.{memory_of, SameTable, Lists, Here, Stands, jump_to, Whole};
+ghost use Rattle.listing.specs.Listings.{loan_of, memory_of, SameTable, Lists, Here, Stands, jump_code, jump_place, jump_to, Whole};
 ghost use Rattle.model.specs.Code.{entry};
 ghost use Rattle.model.specs.Codes as Codes;
 ghost use Rattle.model.specs.declared.table.Entry.{Entry};
 
-use model::codes::LDC;
+use model::ops::Op;
 use model::table::Entry;
 use pile::Pile;
 
 /// A table has at most 65,535 entries.
-const MOST: usize = 65535;
-
-/// The greatest number of a script.
-const GREATEST: u32 = 2147483647;
+const MOST: usize = u16::MAX as usize;
 
 /// The entries laid so far, and whether there were more than fit.
+//
+// The entries are an argument of the clauses: those that did not fit stand in no field, and a ghost field keeps facts, no
+// data.
+// What stays, `SameTable`, is a clause of each method: it relates two moments.
 #[derive(Drop)]
 pub struct Listing<'a> {
     table: Pile<'a, Entry>,
+    // A flag, and no enum of a pile or a refusal: the memory goes back to its lender in both states, so each method would
+    // have to take the pile out and put it back.
     over: bool,
 }
 
 /// A jump whose target is not known yet. It is spent by `close` or `abandon`.
+// By the code of its entry, as `entry_of` is.
 pub struct OpenJump {
     at: u16,
     code: u8,
@@ -35,12 +39,14 @@ pub struct OpenJump {
 }
 
 /// An entry with its code, its operands and its place.
+//
+// Its code is a byte, and no `Op`, so that no caller is asked for more than an entry may hold.
 pub fn entry_of(code: u8, a: u16, b: u16, place: u16) -> Entry
     ensures { result ≡ entry code a b place }
 {
     Entry {
         code,
-        a: a as i32,
+        a: i32::from(a),
         b,
         place,
     }
@@ -50,10 +56,9 @@ pub fn entry_of(code: u8, a: u16, b: u16, place: u16) -> Entry
 pub fn constant_of(value: u32, place: u16) -> Entry
     ensures { value ≤ 2147483647 → result ≡ entry Codes.LDC value 0 place }
 {
-    let a = if value > GREATEST { 0 } else { value as i32 };
     Entry {
-        code: LDC,
-        a,
+        code: Op::Ldc.code(),
+        a: i32::try_from(value).unwrap_or(0),
         b: 0,
         place,
     }
@@ -63,7 +68,7 @@ impl<'a> Listing<'a> {
     /// No entries, over the memory lent.
     pub fn new(table: &'a mut [Entry]) -> Listing<'a>
         ensures lists { Lists result [] }
-        ensures lent { (memory_of result ≡ table.old) × (result.table.cells.ghost_name ≡ table.entry.ghost_name) }
+        ensures lent { (memory_of result ≡ table.old) × ((loan_of result).ghost_name ≡ table.entry.ghost_name) }
     {
         Listing {
             table: Pile::new(table),
@@ -75,8 +80,7 @@ impl<'a> Listing<'a> {
     pub fn here(&self) -> u16
         ensures { (es : List Entry) → Here self.now es result }
     {
-        let fill = self.table.fill();
-        if fill > MOST { 0 } else { fill as u16 }
+        u16::try_from(self.table.fill()).unwrap_or(0)
     }
 
     /// Lays an entry behind those that are there.
@@ -87,14 +91,7 @@ impl<'a> Listing<'a> {
         if self.over {
             return;
         }
-        if self.table.fill() >= MOST {
-            self.over = true;
-            return;
-        }
-        match self.table.lay(e) {
-            Ok(_) => {}
-            Err(_) => self.over = true,
-        }
+        self.over = self.table.fill() >= MOST || self.table.lay(e).is_err();
     }
 
     /// Changes entry `at`, which was laid before.
@@ -105,13 +102,13 @@ impl<'a> Listing<'a> {
         if self.over {
             return;
         }
-        let _ = self.table.change(at as usize, e);
+        let _ = self.table.change(usize::from(at), e);
     }
 
     /// Lays a jump whose target is to come.
     pub fn lay_open(&mut self, code: u8, place: u16) -> OpenJump
         ensures lists { (es : List Entry) → Lists self.old es → Lists self.new (es ++ (entry code 0 0 place ∷ [])) }
-        ensures stands { ((es : List Entry) → Lists self.old es → Stands result self.old es) × (result.code ≡ code) × (result.place ≡ place) }
+        ensures stands { ((es : List Entry) → Lists self.old es → Stands result self.old es) × (jump_code result ≡ code) × (jump_place result ≡ place) }
         ensures same { SameTable self.old self.new }
     {
         let at = self.here();
@@ -131,20 +128,18 @@ impl<'a> Listing<'a> {
 
     /// The memory, back from the listing, and how many entries it holds, unless there were more than fit.
     pub fn into_parts(self) -> (&'a mut [Entry], Option<usize>)
-        ensures lent { result.0 ≡ self.entry.table.cells }
+        ensures lent { result.0 ≡ loan_of self.entry }
         ensures whole { (es : List Entry) → Lists self.entry es → Whole self.entry es result.1 }
     {
         let Listing { table, over } = self;
         let (memory, fill) = table.into_parts();
-        if over {
-            (memory, None)
-        } else {
-            (memory, Some(fill))
-        }
+        (memory, (!over).then_some(fill))
     }
 }
 
 /// Spends the jump, and leaves its entry without a target.
+//
+// Each field is named, since a jump is not `Drop`: `OpenJump { .. }` would let it go unspent.
 pub fn abandon(jump: OpenJump) {
     let OpenJump {
         at: _,

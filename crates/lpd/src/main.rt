@@ -35,6 +35,8 @@ fn show_token(rt: &impl Print, lexeme: Lexeme<'_>) -> io::Result<()> {
 }
 
 // Shows each token, and tells how many there are or the fault that ends the reading.
+// One result in the other: a print that fails ends the program, a fault is what there is to tell. By `loop`: the reader
+// is no iterator, since its fault comes again at every further call.
 fn show_tokens(rt: &impl Print, text: &[u8]) -> io::Result<Result<usize, Fault>>
     ensures { IfOk result (Listed 0 (read text.now)) }
 {

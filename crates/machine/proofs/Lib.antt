@@ -1,5 +1,4 @@
 -- The lemmas that the proofs share.
-pub mod Places
 pub mod Spans
 pub mod Steps
 pub mod Turns

@@ -36,16 +36,19 @@ abbrev pub result_of : Result ℤ RunFault → Values.Result
 result_of (Ok v) = Values.value v
 result_of (Err f) = Values.fails f
 
+-- of x comes, as R tells, what g gives
+abbrev pub Means : (ℤ → Result ℤ RunFault → Type 0) → (ℤ → Values.Result) → ℤ → Type 0
+Means R g x = (r : Result ℤ RunFault) → R x r → result_of r ≡ g x
+
 -- a value that a cell holds, where there is one
 abbrev pub holding : Option ℤ → Values.Result
 holding (Some v) = Values.value v
 holding None = Values.fails NoValue
 
 -- what a pile of cells refuses: a value for which it has no room, or a cell that is not filled
-abbrev pub with_fault : {A : Type 0} → Result A Refusal → Result A RunFault
-with_fault (Ok x) = Ok x
-with_fault (Err Full) = Err CellsFull
-with_fault (Err Absent) = Err NoCell
+abbrev pub refused : Refusal → RunFault
+refused Full = CellsFull
+refused Absent = NoCell
 
 -- an operand as an index of a cell
 abbrev pub Indexed : ℤ → Result ℕ RunFault → Type 0
@@ -93,11 +96,6 @@ Exchanged f p h e r q g =
 abbrev pub onward : ℕ → Result (Unit {0}) RunFault → Result Flow RunFault
 onward at (Ok _) = Ok (Flows.Goes (suc at))
 onward at (Err x) = Err x
-
--- to the entry that is answered, where the instruction was carried out
-abbrev pub onto : Result ℕ RunFault → Result Flow RunFault
-onto (Ok to) = Ok (Flows.Goes to)
-onto (Err x) = Err x
 
 -- w is told, of the cells and a host's meaning before and after; what halts or stops changes nothing
 abbrev pub Flowed : Went → Pile ℤ → Meaning → Flow → Pile ℤ → Meaning → Type 0

@@ -1,26 +1,27 @@
 //! The instructions that work on the cells alone.
-ghost use Rattle.std.specs.Prelude.{◌≡◌, suc, ◌-◌, ◌<◌, ◌≤◌, slice_set};
+ghost use Rattle.std.specs.Prelude.{◌≡◌, suc, ℤ, ◌-◌, ◌<◌, ◌≤◌, slice_set};
 ghost use Rattle.pile.specs.Piles.{memory, fill_of};
 ghost use Rattle.model.specs.declared.table.Entry.{Entry};
 ghost use Rattle.model.specs.Codes as Codes;
-ghost use Rattle.model.specs.Machine.{two};
-ghost use Rattle.machine.specs.Carried.{with_fault, Indexed, Valued, Topped, Filled, Done};
+ghost use Rattle.model.specs.Machine.{one, two, top as top_of};
+ghost use Rattle.model.specs.Values.{Result as Outcome};
+ghost use Rattle.machine.specs.Carried.{refused, machine_of, Means, Indexed, Valued, Topped, Filled, Done};
 ghost use Rattle.machine.specs.Ops.{instruction};
 
-use crate::values::{combine, deny, invert};
+use crate::values::combine;
 use model::faults::RunFault;
 use model::script::Operator;
 use model::table::Entry;
 use pile::{Pile, Refusal};
 
 /// What a pile of cells refuses is a fault: a value for which it has no room, or a cell that is not filled.
-pub(crate) fn or_fault<T>(answer: Result<T, Refusal>) -> Result<T, RunFault>
-    ensures { result ≡ with_fault answer }
+// Not a `From`: where entries or names are piled, the same refusal is no fault of a run.
+pub(crate) fn fault_of(refusal: Refusal) -> RunFault
+    ensures { result ≡ refused refusal }
 {
-    match answer {
-        Ok(value) => Ok(value),
-        Err(Refusal::Full) => Err(RunFault::CellsFull),
-        Err(Refusal::Absent) => Err(RunFault::NoCell),
+    match refusal {
+        Refusal::Full => RunFault::CellsFull,
+        Refusal::Absent => RunFault::NoCell,
     }
 }
 
@@ -28,28 +29,21 @@ pub(crate) fn or_fault<T>(answer: Result<T, Refusal>) -> Result<T, RunFault>
 pub(crate) fn index(a: i32) -> Result<usize, RunFault>
     ensures { Indexed a result }
 {
-    if a < 0 {
-        return Err(RunFault::NoCell);
-    }
-    Ok(a as usize)
+    usize::try_from(a).map_err(|_| RunFault::NoCell)
 }
 
 /// The value of a filled cell.
 fn value_at(cells: &Pile<i32>, i: usize) -> Result<i32, RunFault>
     ensures { Valued cells.now i result }
 {
-    or_fault(cells.read(i))
+    cells.read(i).map_err(fault_of)
 }
 
 /// The top value.
 pub(crate) fn top(cells: &Pile<i32>) -> Result<i32, RunFault>
     ensures { Topped cells.now result }
 {
-    let n = cells.fill();
-    if n < 1 {
-        return Err(RunFault::FewValues);
-    }
-    value_at(cells, n - 1)
+    cells.filled().last().copied().ok_or(RunFault::FewValues)
 }
 
 /// Drops the top value.
@@ -75,7 +69,7 @@ fn replace(cells: &mut Pile<i32>, place: usize, value: i32)
 pub(crate) fn load_constant(cells: &mut Pile<i32>, e: &Entry) -> Result<(), RunFault>
     ensures { Done (instruction Codes.LDC) cells.old e.now result cells.new }
 {
-    or_fault(cells.lay(e.a))
+    cells.lay(e.a).map_err(fault_of)
 }
 
 /// LDV: what cell `a` holds onto the cells.
@@ -84,7 +78,7 @@ pub(crate) fn load(cells: &mut Pile<i32>, e: &Entry) -> Result<(), RunFault>
 {
     let from = index(e.a)?;
     let value = value_at(cells, from)?;
-    or_fault(cells.lay(value))
+    cells.lay(value).map_err(fault_of)
 }
 
 /// STR: the top value to cell `a`.
@@ -93,7 +87,7 @@ pub(crate) fn store(cells: &mut Pile<i32>, e: &Entry) -> Result<(), RunFault>
 {
     let value = top(cells)?;
     let to = index(e.a)?;
-    or_fault(cells.change(to, value))?;
+    cells.change(to, value).map_err(fault_of)?;
     drop_top(cells);
     Ok(())
 }
@@ -102,6 +96,7 @@ pub(crate) fn store(cells: &mut Pile<i32>, e: &Entry) -> Result<(), RunFault>
 pub(crate) fn both(cells: &mut Pile<i32>, o: Operator) -> Result<(), RunFault>
     ensures { (e : Entry) → Done (two o) cells.old e result cells.new }
 {
+    // By a test: with `checked_sub(2)` and `?` the proof of the first value's fault did not close.
     let n = cells.fill();
     if n < 2 {
         return Err(RunFault::FewValues);
@@ -113,20 +108,15 @@ pub(crate) fn both(cells: &mut Pile<i32>, o: Operator) -> Result<(), RunFault>
     Ok(())
 }
 
-/// INV: the top value with the other sign.
-pub(crate) fn change_sign(cells: &mut Pile<i32>) -> Result<(), RunFault>
-    ensures { (e : Entry) → Done (instruction Codes.INV) cells.old e result cells.new }
+/// What `f` gives of the top value, in its place.
+pub(crate) fn alter<F: Fn(i32) -> Result<i32, RunFault> + Drop>(
+    cells: &mut Pile<i32>,
+    f: F,
+) -> Result<(), RunFault>
+    requires { F.IsAlwaysCallable f }
+    ensures { (e : Entry) (g : ℤ → Outcome) → Means (F.post f) g (top_of (machine_of cells.old 0)) → Done (one g) cells.old e result cells.new }
 {
-    let value = invert(top(cells)?)?;
-    replace(cells, cells.fill() - 1, value);
-    Ok(())
-}
-
-/// NEG: 1 less the top value.
-pub(crate) fn negate(cells: &mut Pile<i32>) -> Result<(), RunFault>
-    ensures { (e : Entry) → Done (instruction Codes.NEG) cells.old e result cells.new }
-{
-    let value = deny(top(cells)?)?;
+    let value = f(top(cells)?)?;
     replace(cells, cells.fill() - 1, value);
     Ok(())
 }

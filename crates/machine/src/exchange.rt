@@ -5,7 +5,7 @@ ghost use Rattle.model.specs.Codes as Codes;
 ghost use Rattle.machine.specs.Carried.{Exchanged};
 ghost use Rattle.machine.specs.Ops.{instruction};
 
-use crate::cells::{drop_top, or_fault, top};
+use crate::cells::{drop_top, fault_of, top};
 use host::Host;
 use model::faults::RunFault;
 use pile::Pile;
@@ -19,10 +19,8 @@ pub(crate) fn read<H: Host>(cells: &mut Pile<i32>, host: &mut H) -> Result<(), R
     if cells.is_full() {
         return Err(RunFault::CellsFull);
     }
-    match host.take() {
-        Some(value) => or_fault(cells.lay(value)),
-        None => Err(RunFault::NothingWaiting),
-    }
+    let value = host.take().ok_or(RunFault::NothingWaiting)?;
+    cells.lay(value).map_err(fault_of)
 }
 
 /// PRN: the top value to the host.
@@ -31,11 +29,7 @@ pub(crate) fn print<H: Host>(cells: &mut Pile<i32>, host: &mut H) -> Result<(), 
     ensures stays { Stays H.Host.since host.old host.new }
 {
     let value = top(cells)?;
-    match host.put(value) {
-        Ok(_) => {
-            drop_top(cells);
-            Ok(())
-        }
-        Err(_) => Err(RunFault::OutputFull),
-    }
+    host.put(value).map_err(|_| RunFault::OutputFull)?;
+    drop_top(cells);
+    Ok(())
 }

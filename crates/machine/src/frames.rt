@@ -4,7 +4,7 @@ ghost use Rattle.model.specs.Codes as Codes;
 ghost use Rattle.machine.specs.Carried.{Done};
 ghost use Rattle.machine.specs.Ops.{instruction};
 
-use crate::cells::{index, or_fault};
+use crate::cells::{fault_of, index};
 use model::faults::RunFault;
 use model::table::Entry;
 use pile::Pile;
@@ -14,11 +14,11 @@ pub(crate) fn allocate(cells: &mut Pile<i32>, e: &Entry) -> Result<(), RunFault>
     ensures { Done (instruction Codes.ALLOC) cells.old e.now result cells.new }
 {
     let from = index(e.a)?;
-    let count = e.b as usize;
+    let count = usize::from(e.b);
     if from == cells.fill() {
-        or_fault(cells.lay_times(0, count))
+        cells.lay_times(0, count).map_err(fault_of)
     } else {
-        or_fault(cells.lift(from, count, 0))
+        cells.lift(from, count, 0).map_err(fault_of)
     }
 }
 
@@ -26,16 +26,13 @@ pub(crate) fn allocate(cells: &mut Pile<i32>, e: &Entry) -> Result<(), RunFault>
 pub(crate) fn release(cells: &mut Pile<i32>, e: &Entry) -> Result<(), RunFault>
     ensures { Done (instruction Codes.DALLOC) cells.old e.now result cells.new }
 {
-    let count = e.b as usize;
-    if cells.fill() < count {
-        return Err(RunFault::FewValues);
-    }
-    let left = cells.fill() - count;
+    let count = usize::from(e.b);
+    let left = cells.fill().checked_sub(count).ok_or(RunFault::FewValues)?;
     let to = index(e.a)?;
     if to == left {
-        or_fault(cells.cut(left))
+        cells.cut(left).map_err(fault_of)
     } else {
-        or_fault(cells.lower(count, to))
+        cells.lower(count, to).map_err(fault_of)
     }
 }
 
@@ -43,5 +40,5 @@ pub(crate) fn release(cells: &mut Pile<i32>, e: &Entry) -> Result<(), RunFault>
 pub(crate) fn start(cells: &mut Pile<i32>) -> Result<(), RunFault>
     ensures { (e : Entry) → Done (instruction Codes.START) cells.old e result cells.new }
 {
-    or_fault(cells.cut(0))
+    cells.cut(0).map_err(fault_of)
 }

@@ -2,9 +2,9 @@
 #![tactic(auto)]
 
 mod cells;
+mod current;
 mod exchange;
 mod frames;
 mod jumps;
-pub mod ops;
 pub mod run;
 mod values;

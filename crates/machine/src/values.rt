@@ -10,10 +10,7 @@ use model::script::Operator;
 fn held(value: Option<i32>) -> Result<i32, RunFault>
     ensures { result_of result ≡ holding value }
 {
-    match value {
-        Some(v) => Ok(v),
-        None => Err(RunFault::NoValue),
-    }
+    value.ok_or(RunFault::NoValue)
 }
 
 /// The value that an operator gives, or the fault in its place.
@@ -24,20 +21,16 @@ pub(crate) fn combine(o: Operator, x: i32, y: i32) -> Result<i32, RunFault>
         Operator::Add => held(x.checked_add(y)),
         Operator::Sub => held(x.checked_sub(y)),
         Operator::Mult => held(x.checked_mul(y)),
-        Operator::Divi => {
-            if y == 0 {
-                return Err(RunFault::ZeroDivisor);
-            }
-            held(x.checked_div(y))
-        }
-        Operator::And => Ok((x == 1 && y == 1) as i32),
-        Operator::Or => Ok((x == 1 || y == 1) as i32),
-        Operator::Less => Ok((x < y) as i32),
-        Operator::Greater => Ok((x > y) as i32),
-        Operator::Equal => Ok((x == y) as i32),
-        Operator::Unequal => Ok((x != y) as i32),
-        Operator::AtMost => Ok((x <= y) as i32),
-        Operator::AtLeast => Ok((x >= y) as i32),
+        Operator::Divi if y == 0 => Err(RunFault::ZeroDivisor),
+        Operator::Divi => held(x.checked_div(y)),
+        Operator::And => Ok(i32::from(x == 1 && y == 1)),
+        Operator::Or => Ok(i32::from(x == 1 || y == 1)),
+        Operator::Less => Ok(i32::from(x < y)),
+        Operator::Greater => Ok(i32::from(x > y)),
+        Operator::Equal => Ok(i32::from(x == y)),
+        Operator::Unequal => Ok(i32::from(x != y)),
+        Operator::AtMost => Ok(i32::from(x <= y)),
+        Operator::AtLeast => Ok(i32::from(x >= y)),
     }
 }
 

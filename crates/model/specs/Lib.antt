@@ -19,6 +19,7 @@ pub mod Codes
 pub mod Code
 pub mod Values
 pub mod Machine
+pub mod Ops
 pub mod Person
 pub mod Calls
 pub mod Promise

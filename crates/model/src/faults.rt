@@ -4,57 +4,57 @@ ghost use Rattle.model.specs.Numbers.{reader_number, grammar_number, meaning_num
 ghost use Rattle.model.specs.declared.faults.Cause.TheVariants as Causes;
 
 /// The reader cannot go on.
-#[derive(Clone, Copy)]
+#[derive(Clone, Copy, PartialEq, Eq, Debug)]
 pub enum ReaderFault {
     /// The byte begins no token.
-    NoToken,
+    NoToken = 10,
     /// The comment is never closed.
-    OpenComment,
+    OpenComment = 11,
     /// The number is above the greatest value.
-    LargeNumber,
+    LargeNumber = 12,
     /// The name has more than 30 bytes.
-    LongName,
+    LongName = 13,
 }
 
 /// The grammar does not go on like this.
-#[derive(Clone, Copy)]
+#[derive(Clone, Copy, PartialEq, Eq, Debug)]
 pub enum GrammarFault {
     /// The token may not stand here.
-    NotAdmitted,
+    NotAdmitted = 20,
     /// The text ended too early.
-    TextEnded,
+    TextEnded = 21,
     /// More than 64 levels are open.
-    TooDeep,
+    TooDeep = 22,
 }
 
 /// A name or a type is used against its rules.
-#[derive(Clone, Copy)]
+#[derive(Clone, Copy, PartialEq, Eq, Debug)]
 pub enum MeaningFault {
     /// No declaration of the name is visible.
-    NotVisible,
+    NotVisible = 30,
     /// The block has the name already.
-    Twice,
+    Twice = 31,
     /// The name stands for something else than is wanted here.
-    WrongKind,
+    WrongKind = 32,
     /// The types do not agree.
-    WrongType,
+    WrongType = 33,
 }
 
 /// Something that is lent, or a fixed limit, is too small.
-#[derive(Clone, Copy)]
+#[derive(Clone, Copy, PartialEq, Eq, Debug)]
 pub enum RoomFault {
     /// The text has more than 65,535 bytes.
-    LongText,
+    LongText = 40,
     /// There is no record left for a name.
-    NamesFull,
+    NamesFull = 41,
     /// The table is shorter than the code, or the code has more than 65,535 entries.
-    TableFull,
+    TableFull = 42,
     /// The script wants more than 4,096 cells.
-    ManyCells,
+    ManyCells = 43,
 }
 
 /// Which part of the translation a fault comes from.
-#[derive(Clone, Copy)]
+#[derive(Clone, Copy, PartialEq, Eq, Debug)]
 pub enum Layer {
     Reader,
     Grammar,
@@ -63,7 +63,7 @@ pub enum Layer {
 }
 
 /// Why a text is refused: the fault of one layer.
-#[derive(Clone, Copy)]
+#[derive(Clone, Copy, PartialEq, Eq, Debug)]
 pub enum Cause {
     Reader(ReaderFault),
     Grammar(GrammarFault),
@@ -72,73 +72,71 @@ pub enum Cause {
 }
 
 /// A fault of one layer, with the place at which it was judged.
-#[derive(Clone, Copy)]
+#[derive(Clone, Copy, PartialEq, Eq, Debug)]
 pub struct Placed<F> {
     pub fault: F,
     pub place: usize,
 }
 
 /// Why a text is refused, and at which place.
-#[derive(Clone, Copy)]
+// Not `Placed<Cause>`: the one `From<Placed<F>>` below would then overlap with the `From` of a type for itself.
+#[derive(Clone, Copy, PartialEq, Eq, Debug)]
 pub struct Fault {
     pub cause: Cause,
     pub place: usize,
 }
 
 /// Why a run stops.
-#[derive(Clone, Copy)]
+#[derive(Clone, Copy, PartialEq, Eq, Debug)]
 pub enum RunFault {
     /// The divisor is 0.
-    ZeroDivisor,
+    ZeroDivisor = 60,
     /// The result is no value.
-    NoValue,
+    NoValue = 61,
     /// Nothing waits to be taken.
-    NothingWaiting,
+    NothingWaiting = 62,
     /// The host accepts no more.
-    OutputFull,
+    OutputFull = 63,
     /// There is no cell left.
-    CellsFull,
+    CellsFull = 64,
     /// The instruction wants more values than there are.
-    FewValues,
+    FewValues = 65,
     /// The operand names no filled cell.
-    NoCell,
+    NoCell = 66,
     /// There is no such entry.
-    NoEntry,
+    NoEntry = 67,
     /// The machine has no such code.
-    NoCode,
+    NoCode = 68,
 }
 
 /// Why a start is refused.
-#[derive(Clone, Copy)]
+#[derive(Clone, Copy, PartialEq, Eq, Debug)]
 pub enum StartRefusal {
     /// There is no script.
-    Empty,
+    Empty = 50,
     /// The table lent is shorter than the code.
-    ShortTable,
+    ShortTable = 51, // as at an advance
 }
 
 /// Why an advance is refused.
-#[derive(Clone, Copy)]
+#[derive(Clone, Copy, PartialEq, Eq, Debug)]
 pub enum AdvanceRefusal {
     /// Nothing is running.
-    NotRunning,
+    NotRunning = 52,
     /// The table lent is shorter than the code.
-    ShortTable,
+    ShortTable = 51,
     /// Fewer cells are lent than the run uses.
-    FewCells,
+    FewCells = 53,
 }
 
+// Each fault or refusal is a number by itself. One function for all would be a trait with seven impls, and nothing asks
+// the number of a fault of unknown type.
 impl ReaderFault {
     /// Its number, 10 to 13.
     pub fn number(self) -> u8
         ensures { result ≡ reader_number self }
     {
-        match self {
-            ReaderFault::NoToken => 10,
-            ReaderFault::OpenComment => 11,
-            ReaderFault::LargeNumber => 12,
-            ReaderFault::LongName => 13,
-        }
+        self as u8
     }
 }
 
@@ -147,11 +145,7 @@ impl GrammarFault {
     pub fn number(self) -> u8
         ensures { result ≡ grammar_number self }
     {
-        match self {
-            GrammarFault::NotAdmitted => 20,
-            GrammarFault::TextEnded => 21,
-            GrammarFault::TooDeep => 22,
-        }
+        self as u8
     }
 }
 
@@ -160,12 +154,7 @@ impl MeaningFault {
     pub fn number(self) -> u8
         ensures { result ≡ meaning_number self }
     {
-        match self {
-            MeaningFault::NotVisible => 30,
-            MeaningFault::Twice => 31,
-            MeaningFault::WrongKind => 32,
-            MeaningFault::WrongType => 33,
-        }
+        self as u8
     }
 }
 
@@ -174,12 +163,7 @@ impl RoomFault {
     pub fn number(self) -> u8
         ensures { result ≡ room_number self }
     {
-        match self {
-            RoomFault::LongText => 40,
-            RoomFault::NamesFull => 41,
-            RoomFault::TableFull => 42,
-            RoomFault::ManyCells => 43,
-        }
+        self as u8
     }
 }
 
@@ -223,17 +207,7 @@ impl RunFault {
     pub fn number(self) -> u8
         ensures { result ≡ run_number self }
     {
-        match self {
-            RunFault::ZeroDivisor => 60,
-            RunFault::NoValue => 61,
-            RunFault::NothingWaiting => 62,
-            RunFault::OutputFull => 63,
-            RunFault::CellsFull => 64,
-            RunFault::FewValues => 65,
-            RunFault::NoCell => 66,
-            RunFault::NoEntry => 67,
-            RunFault::NoCode => 68,
-        }
+        self as u8
     }
 }
 
@@ -242,10 +216,7 @@ impl StartRefusal {
     pub fn number(self) -> u8
         ensures { result ≡ start_number self }
     {
-        match self {
-            StartRefusal::Empty => 50,
-            StartRefusal::ShortTable => 51,
-        }
+        self as u8
     }
 }
 
@@ -254,42 +225,48 @@ impl AdvanceRefusal {
     pub fn number(self) -> u8
         ensures { result ≡ advance_number self }
     {
-        match self {
-            AdvanceRefusal::NotRunning => 52,
-            AdvanceRefusal::ShortTable => 51,
-            AdvanceRefusal::FewCells => 53,
-        }
+        self as u8
     }
 }
 
-impl From<Placed<ReaderFault>> for Fault {
-    ghost from_gives = { λ p r. (r.cause ≡ Causes.Reader p.fault) × (r.place ≡ p.place) };
+impl From<ReaderFault> for Cause {
+    ghost from_gives = { λ f r. r ≡ Causes.Reader f };
 
-    fn from(p: Placed<ReaderFault>) -> Fault {
-        Fault::at(Cause::Reader(p.fault), p.place)
+    fn from(fault: ReaderFault) -> Cause {
+        Cause::Reader(fault)
     }
 }
 
-impl From<Placed<GrammarFault>> for Fault {
-    ghost from_gives = { λ p r. (r.cause ≡ Causes.Grammar p.fault) × (r.place ≡ p.place) };
+impl From<GrammarFault> for Cause {
+    ghost from_gives = { λ f r. r ≡ Causes.Grammar f };
 
-    fn from(p: Placed<GrammarFault>) -> Fault {
-        Fault::at(Cause::Grammar(p.fault), p.place)
+    fn from(fault: GrammarFault) -> Cause {
+        Cause::Grammar(fault)
     }
 }
 
-impl From<Placed<MeaningFault>> for Fault {
-    ghost from_gives = { λ p r. (r.cause ≡ Causes.Meaning p.fault) × (r.place ≡ p.place) };
+impl From<MeaningFault> for Cause {
+    ghost from_gives = { λ f r. r ≡ Causes.Meaning f };
 
-    fn from(p: Placed<MeaningFault>) -> Fault {
-        Fault::at(Cause::Meaning(p.fault), p.place)
+    fn from(fault: MeaningFault) -> Cause {
+        Cause::Meaning(fault)
     }
 }
 
-impl From<Placed<RoomFault>> for Fault {
-    ghost from_gives = { λ p r. (r.cause ≡ Causes.Room p.fault) × (r.place ≡ p.place) };
+impl From<RoomFault> for Cause {
+    ghost from_gives = { λ f r. r ≡ Causes.Room f };
 
-    fn from(p: Placed<RoomFault>) -> Fault {
-        Fault::at(Cause::Room(p.fault), p.place)
+    fn from(fault: RoomFault) -> Cause {
+        Cause::Room(fault)
+    }
+}
+
+/// So `?` lifts the fault of any layer, and keeps its place.
+impl<F: Into<Cause>> From<Placed<F>> for Fault {
+    ghost from_gives = { λ p r. F.converts p.fault r.cause × (r.place ≡ p.place) };
+
+    fn from(placed: Placed<F>) -> Fault {
+        let Placed { fault, place } = placed;
+        Fault::at(fault.into(), place)
     }
 }

@@ -1,7 +1,7 @@
 //! The reserved words and the signs of LPD.
 
 /// A reserved word.
-#[derive(Clone, Copy)]
+#[derive(Clone, Copy, PartialEq, Eq, Debug)]
 pub enum Word {
     Var,
     Inteiro,
@@ -27,7 +27,7 @@ pub enum Word {
 }
 
 /// A sign.
-#[derive(Clone, Copy)]
+#[derive(Clone, Copy, PartialEq, Eq, Debug)]
 pub enum Sign {
     Plus,
     Minus,

@@ -2,7 +2,7 @@
 use super::faults::RunFault;
 
 /// How far an advance came, with the steps that it made.
-#[derive(Clone, Copy)]
+#[derive(Clone, Copy, PartialEq, Eq, Debug)]
 pub enum Told {
     /// The script came to its end.
     Ended {

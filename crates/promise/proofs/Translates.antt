@@ -19,7 +19,7 @@ use Rattle.model.specs.Code.{of_program}
 use Rattle.model.specs.Machine.{no_entry}
 use Rattle.model.specs.Calls.{World, translate, filled_with, no_name, Translation, into, fault, of_verdict, translation, translated_to}
 use Rattle.model.specs.Promise.{Since, History, interrupted, remembered, Lent}
-use Rattle.faithful.proofs.Lockstep.Tests.{leb_true_le}
+use Rattle.std.proofs.lemmas.Bool.{leb-true}
 use Rattle.promise.proofs.Invariant.{Between, RunStands}
 
 -- a text that becomes entries is a script, and they are its code and fit
@@ -37,7 +37,7 @@ translation_is text k j = short (leb (length text) 65535)
           | true ↦ into (of_program b)
           | false ↦ fault (Causes.Room TableFull) (length text)
         ])
-    fits b e true x = let z = leb_true_le (length (of_program b)) (min k 65535) x in (b, e, refl, omega arith)
+    fits b e true x = let z = leb-true (length (of_program b)) (min k 65535) x in (b, e, refl, omega arith)
     fits b e false x = tt
 
     of : (v : Verdict) → verdict j (read text) at_start ≡ v → Translated text k j (of_verdict text k v)

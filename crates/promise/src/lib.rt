@@ -10,29 +10,21 @@ ghost use Rattle.promise.specs.InUse.{EnoughInEveryList};
 
 /// After every list of calls, from every set-up, the values taken and written are a front of those of the person who
 /// follows the script; an end or a fault is the person's, or the want of cells; and enough budget brings it about.
-pub fn every_list_of_calls_follows_the_script() -> u8
+pub fn every_list_of_calls_follows_the_script()
     ensures { Promise }
-{
-    0
-}
+{}
 
 /// The same, as the contract of a single call says it: for every list of calls that led to the world that the call met.
-pub fn every_call_carries_the_promise() -> u8
+pub fn every_call_carries_the_promise()
     ensures { Carried }
-{
-    0
-}
+{}
 
 /// With cells and budget enough, an advance from the start tells the very end or fault that the person comes to.
-pub fn enough_cells_and_budget_suffice() -> u8
+pub fn enough_cells_and_budget_suffice()
     ensures { Enough }
-{
-    0
-}
+{}
 
 /// And so does a run in every list of calls, whatever calls come between its advances.
-pub fn enough_cells_and_budget_suffice_in_every_list_of_calls() -> u8
+pub fn enough_cells_and_budget_suffice_in_every_list_of_calls()
     ensures { EnoughInEveryList }
-{
-    0
-}
+{}

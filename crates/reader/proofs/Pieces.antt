@@ -1,12 +1,19 @@
 -- The token at the front of a text, by its first byte.
-use Rattle.std.proofs.Common.{◌≡◌, ℕ, ◌<◌, ◌≤◌, Bool, true, false, leb, List, [], ◌∷◌, length, get_or, take, sym, refl, ap, ◌∙◌, arith, length-take-le, le-leb}
+use Rattle.std.proofs.Common.{◌≡◌, ℕ, ◌<◌, ◌≤◌, Bool, true, false, leb, List, [], ◌∷◌, length, get_or, take, Ok, Err, sym, refl, ap, ◌∙◌, arith, le-leb}
+use Rattle.std.proofs.lemmas.Bool.Decides.{nat_tests}
+use Rattle.std.proofs.lemmas.List.Folds.{length-prefix_len}
+use Rattle.std.proofs.lemmas.List.Sums.{prefix_len-le-length}
+use Rattle.std.specs.List.{prefix_len}
 use mathlib.Core.Option.{none, some}
 use borrow.Author.Tests.{lt-leb}
+use denote.Ref.{Bor}
 use Rattle.model.specs.declared.tokens.Word.{Word}
 use Rattle.model.specs.declared.faults.ReaderFault.TheVariants.{LargeNumber, LongName}
 use Rattle.model.specs.Tokens.{word, name, number}
 use Rattle.model.specs.Reading.{front, letter, digit, name_byte, same, pick, words, worth, spelled, token_at, Got, got, faulty}
-use Rattle.reader.specs.Pieces.{token_from, sign_from}
+use Rattle.reader.specs.declared.tokens.Token.TheVariants as TokenIs
+use Rattle.reader.specs.Pieces.{token_from, ReadAs}
+use Rattle.reader.proofs.Fronts.{front_prefix}
 
 -- names
 
@@ -16,33 +23,49 @@ called s u = elim u [ true ↦ spelled s (pick same s words) | false ↦ faulty 
 name_front : (b : ℕ) (bs : List ℕ) → letter b ≡ true → front name_byte (b ∷ bs) ≡ b ∷ front name_byte bs
 name_front b bs h = rw (h, front) refl
 
-name_whole : (xs : List ℕ) (n : ℕ) → 0 < length xs → letter (get_or xs 0 0) ≡ true → front name_byte xs ≡ take n xs → token_from xs ≡ called (take n xs) (leb (length (take n xs)) 30)
-name_whole [] n more is longest = absurd (omega arith)
-name_whole (b ∷ bs) n more is longest = rw (is, token_at) (ap (λ s. called s (leb (length s) 30)) (sym (name_front b bs is) ∙ longest))
+name_whole : (xs : List ℕ) → letter (get_or xs 0 0) ≡ true → token_from xs ≡ called (front name_byte xs) (leb (length (front name_byte xs)) 30)
+name_whole [] is = cc
+name_whole (b ∷ bs) is = rw (is, token_at) (ap (λ s. called s (leb (length s) 30)) (sym (name_front b bs is)))
 
-name_starts : (xs : List ℕ) → 0 < length xs → letter (get_or xs 0 0) ≡ true → 0 < length (front name_byte xs)
-name_starts [] more is = absurd (omega arith)
-name_starts (b ∷ bs) more is = omega (arith, ap length (name_front b bs is))
+name_starts : (xs : List ℕ) → letter (get_or xs 0 0) ≡ true → 0 < length (front name_byte xs)
+name_starts [] is = cc
+name_starts (b ∷ bs) is = omega (arith, ap length (name_front b bs is))
 
-module _ (xs : List ℕ) (n : ℕ) (more : 0 < length xs) (is : letter (get_or xs 0 0) ≡ true) (within : n ≤ length xs) (longest : front name_byte xs ≡ take n xs) where
-  pub name_some : 0 < n
-  name_some = omega (arith, name_starts xs more is, ap length longest, length-take-le n xs within)
+-- the n bytes at the front, and no more, are a name's, and the first is a letter
+module _ (xs : List ℕ) (n : ℕ) (is : letter (get_or xs 0 0) ≡ true) (counted : n ≡ prefix_len name_byte xs) where
+  name_run : front name_byte xs ≡ take n xs
+  name_run = rw counted (front_prefix name_byte xs)
 
-  pub name_long : 30 < n → faulty LongName ≡ token_from xs
-  name_long h = sym (name_whole xs n more is longest ∙ ap (called (take n xs)) (ap (λ k. leb k 30) (length-take-le n xs within) ∙ lt-leb n 30 h))
+  name_len : length (take n xs) ≡ n
+  name_len = rw counted (length-prefix_len name_byte xs)
 
-  module _ (short : n ≤ 30) (s : List ℕ) (cut : s ≡ take n xs) where
-    len : length s ≡ n
-    len = ap length cut ∙ length-take-le n xs within
+  name_cut : token_from xs ≡ called (take n xs) (leb n 30)
+  name_cut = name_whole xs is ∙ ap (λ s. called s (leb (length s) 30)) name_run ∙ ap (λ k. called (take n xs) (leb k 30)) name_len
 
-    name_short : token_from xs ≡ spelled s (pick same s words)
-    name_short = name_whole xs n more is longest ∙ ap (λ l. called l (leb (length l) 30)) (sym cut) ∙ ap (called s) (ap (λ k. leb k 30) len ∙ le-leb n 30 short)
+  name_within : n ≤ length xs
+  name_within = omega (arith, prefix_len-le-length name_byte xs)
 
-    pub name_word : (w : Word) → some w ≡ pick same s words → got (word w) n ≡ token_from xs
-    name_word w e = sym (name_short ∙ ap (spelled s) (sym e) ∙ ap (got (word w)) len)
+  name_some : 0 < n
+  name_some = omega (arith, name_starts xs is, ap length name_run, name_len)
 
-    pub name_other : none ≡ pick same s words → got (name s) n ≡ token_from xs
-    name_other e = sym (name_short ∙ ap (spelled s) (sym e) ∙ ap (got (name s)) len)
+  pub name_long : 30 < n → ReadAs (token_from xs) xs (Err LongName)
+  name_long h = record { is = sym (name_cut ∙ ap (called (take n xs)) (lt-leb n 30 h)); fits = tt; cut = tt }
+
+  module _ (short : n ≤ 30) where
+    name_short : token_from xs ≡ spelled (take n xs) (pick same (take n xs) words)
+    name_short = name_cut ∙ ap (called (take n xs)) (le-leb n 30 short)
+
+    pub name_word : (w : Word) → some w ≡ pick same (take n xs) words → ReadAs (token_from xs) xs (Ok (record { token = TokenIs.Word w; len = n }))
+    name_word w e = record { is = sym (name_short ∙ ap (spelled (take n xs)) (sym e) ∙ ap (got (word w)) name_len); fits = (name_some, name_within, tt); cut = tt }
+
+    pub name_other : (s : Bor (List ℕ)) → s.now ≡ take n xs → none ≡ pick same (take n xs) words → ReadAs (token_from xs) xs (Ok (record { token = TokenIs.Name s; len = n }))
+    name_other s h e =
+        let long : length s.now ≡ n = ap length h ∙ name_len in
+        record {
+          is = rw h (sym (name_short ∙ ap (spelled (take n xs)) (sym e) ∙ ap (got (name (take n xs))) name_len));
+          fits = (name_some, name_within, (omega (arith, name_some, long), omega (arith, long)));
+          cut = h ∙ ap (λ k. take k xs) (sym long);
+        }
 
 -- numbers
 
@@ -52,31 +75,36 @@ counted s u = elim u [ true ↦ got (number (worth 0 s)) (length s) | false ↦ 
 number_front : (b : ℕ) (bs : List ℕ) → digit b ≡ true → front digit (b ∷ bs) ≡ b ∷ front digit bs
 number_front b bs h = rw (h, front) refl
 
-number_whole : (xs : List ℕ) (n : ℕ) → 0 < length xs → letter (get_or xs 0 0) ≡ false → digit (get_or xs 0 0) ≡ true → front digit xs ≡ take n xs → token_from xs ≡ counted (take n xs) (leb (worth 0 (take n xs)) 2147483647)
-number_whole [] n more un is longest = absurd (omega arith)
-number_whole (b ∷ bs) n more un is longest = rw (un, token_at) (rw is (ap (λ s. counted s (leb (worth 0 s) 2147483647)) (sym (number_front b bs is) ∙ longest)))
+-- a digit is no letter
+unlike : (b : ℕ) → digit b ≡ true → letter b ≡ false
+unlike b h = grind (arith, nat_tests)
 
-number_starts : (xs : List ℕ) → 0 < length xs → digit (get_or xs 0 0) ≡ true → 0 < length (front digit xs)
-number_starts [] more is = absurd (omega arith)
-number_starts (b ∷ bs) more is = omega (arith, ap length (number_front b bs is))
+number_whole : (xs : List ℕ) → digit (get_or xs 0 0) ≡ true → token_from xs ≡ counted (front digit xs) (leb (worth 0 (front digit xs)) 2147483647)
+number_whole [] is = cc
+number_whole (b ∷ bs) is = rw (unlike b is, token_at) (rw is (ap (λ s. counted s (leb (worth 0 s) 2147483647)) (sym (number_front b bs is))))
 
-module _ (xs : List ℕ) (n : ℕ) (more : 0 < length xs) (un : letter (get_or xs 0 0) ≡ false) (is : digit (get_or xs 0 0) ≡ true) (within : n ≤ length xs) (longest : front digit xs ≡ take n xs) (s : List ℕ) (cut : s ≡ take n xs) where
-  number_cut : token_from xs ≡ counted s (leb (worth 0 s) 2147483647)
-  number_cut = number_whole xs n more un is longest ∙ ap (λ l. counted l (leb (worth 0 l) 2147483647)) (sym cut)
+number_starts : (xs : List ℕ) → digit (get_or xs 0 0) ≡ true → 0 < length (front digit xs)
+number_starts [] is = cc
+number_starts (b ∷ bs) is = omega (arith, ap length (number_front b bs is))
 
-  pub number_some : 0 < n
-  number_some = omega (arith, number_starts xs more is, ap length longest, length-take-le n xs within)
+-- the n bytes at the front, and no more, are digits, and the first is one
+module _ (xs : List ℕ) (n : ℕ) (is : digit (get_or xs 0 0) ≡ true) (run : n ≡ prefix_len digit xs) where
+  number_run : front digit xs ≡ take n xs
+  number_run = rw run (front_prefix digit xs)
 
-  pub number_fits : (v : ℕ) → v ≡ worth 0 s → v ≤ 2147483647 → got (number v) n ≡ token_from xs
-  number_fits v e h =
-      sym (number_cut ∙ ap (counted s) (ap (λ k. leb k 2147483647) (sym e) ∙ le-leb v 2147483647 h)
-      ∙ ap (λ k. got (number k) (length s)) (sym e) ∙ ap (got (number v)) (ap length cut ∙ length-take-le n xs within))
+  number_len : length (take n xs) ≡ n
+  number_len = rw run (length-prefix_len digit xs)
 
-  pub number_big : 2147483647 < worth 0 s → faulty LargeNumber ≡ token_from xs
-  number_big h = sym (number_cut ∙ ap (counted s) (lt-leb (worth 0 s) 2147483647 h))
+  number_cut : token_from xs ≡ counted (take n xs) (leb (worth 0 (take n xs)) 2147483647)
+  number_cut = number_whole xs is ∙ ap (λ s. counted s (leb (worth 0 s) 2147483647)) number_run
 
--- signs
+  pub number_fits : (v : ℕ) → v ≡ worth 0 (take n xs) → v ≤ 2147483647 → ReadAs (token_from xs) xs (Ok (record { token = TokenIs.Number v; len = n }))
+  number_fits v e h = record {
+    is = sym (number_cut ∙ ap (counted (take n xs)) (ap (λ k. leb k 2147483647) (sym e) ∙ le-leb v 2147483647 h)
+        ∙ ap (λ k. got (number k) (length (take n xs))) (sym e) ∙ ap (got (number v)) number_len);
+    fits = (omega (arith, number_starts xs is, ap length number_run, number_len), omega (arith, prefix_len-le-length digit xs), h);
+    cut = tt;
+  }
 
-pub sign_whole : (xs : List ℕ) → 0 < length xs → letter (get_or xs 0 0) ≡ false → digit (get_or xs 0 0) ≡ false → sign_from xs ≡ token_from xs
-sign_whole [] more un not = absurd (omega arith)
-sign_whole (b ∷ bs) more un not = sym (rw (un, token_at) (rw not refl))
+  pub number_big : 2147483647 < worth 0 (take n xs) → ReadAs (token_from xs) xs (Err LargeNumber)
+  number_big h = record { is = sym (number_cut ∙ ap (counted (take n xs)) (lt-leb (worth 0 (take n xs)) 2147483647 h)); fits = tt; cut = tt }

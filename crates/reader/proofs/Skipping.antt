@@ -1,28 +1,54 @@
--- Blanks and comments, a byte at a time.
-use Rattle.std.proofs.Common.{◌≡◌, ℕ, ◌+◌, ◌<◌, ◌≤◌, true, false, eqb, List, ◌∷◌, length, get_or, drop, refl, add-one, drop_of_length-le, drop-cons, eq-eqb, ne_eqb}
-use Rattle.model.specs.Reading.{to, unclosed, skip, comment, blank}
+-- How far a comment goes.
+use Rattle.std.proofs.Common.{◌≡◌, ℕ, suc, ◌+◌, true, false, cond, not, eqb, ltb, List, [], ◌∷◌, Some, None, Option as Maybe, length, drop, sym, refl, ap, ◌∙◌, arith, drop-drop}
+use Rattle.std.proofs.lemmas.Bool.Decides.{nat_tests}
+use Rattle.std.specs.List.{position_or_len}
+use Rattle.std.specs.Option.{option_map}
+use Rattle.model.specs.Reading.{Skipped, unclosed, skip, comment}
+use Rattle.reader.specs.Pieces.{closing}
 
-module _ (text : List ℕ) (p : ℕ) (h : p < length text) where
-  one : drop p text ≡ get_or text p 0 ∷ drop (p + 1) text
-  one = rw add-one (drop-cons text p 0 h)
+-- a comment goes on up to its first closing brace
 
-  pub comment_on : (o : ℕ) → (get_or text p 0 ≡ 125 → ⊥) → comment o p (drop p text) ≡ comment o (p + 1) (drop (p + 1) text)
-  comment_on o ne = rw one (rw (ne_eqb _ 125 ne, comment) (rw add-one refl))
+abbrev shut : ℕ → ℕ → List ℕ → Maybe ℕ → Skipped
+shut o p bs None = unclosed o
+shut o p bs (Some n) = skip (p + n + 1) (drop (n + 1) bs)
 
-  pub comment_end : (o : ℕ) → get_or text p 0 ≡ 125 → comment o p (drop p text) ≡ skip (p + 1) (drop (p + 1) text)
-  comment_end o is = rw one (rw (eq-eqb _ 125 is, comment) (rw add-one refl))
+abbrev first : List ℕ → ℕ
+first bs = position_or_len (λ b. eqb b 125) bs
 
-  pub skip_blank : blank (get_or text p 0) ≡ true → skip p (drop p text) ≡ skip (p + 1) (drop (p + 1) text)
-  skip_blank is = rw one (rw (is, skip) (rw add-one refl))
+ltb_up : (m n : ℕ) → ltb (suc m) (suc n) ≡ ltb m n
+ltb_up m n = grind (arith, nat_tests)
 
-  pub skip_brace : blank (get_or text p 0) ≡ false → eqb (get_or text p 0) 123 ≡ true → skip p (drop p text) ≡ comment p (p + 1) (drop (p + 1) text)
-  skip_brace n is = rw one (rw (n, skip) (rw is (rw add-one refl)))
+ltb_zero : (n : ℕ) → ltb 0 (suc n) ≡ true
+ltb_zero n = grind (arith, nat_tests)
 
-  pub skip_stop : blank (get_or text p 0) ≡ false → eqb (get_or text p 0) 123 ≡ false → skip p (drop p text) ≡ to p (drop p text)
-  skip_stop n m = rw one (rw (n, skip) (rw m refl))
+comment_shut : (bs : List ℕ) (o p : ℕ) → comment o p bs ≡ shut o p bs (cond (ltb (first bs) (length bs)) (Some (first bs)) None)
+comment_shut [] o p = refl
+comment_shut (b ∷ bs) o p =
+    elim (eqb b 125) as (λ t. elim t [ true ↦ skip (suc p) bs | false ↦ comment o (suc p) bs ] ≡ shut o p (b ∷ bs) (cond (ltb (cond (not t) (1 + first bs) 0) (suc (length bs))) (Some (cond (not t) (1 + first bs) 0)) None)) [
+      | true ↦
+          let e : suc p ≡ p + 0 + 1 = omega arith in
+          let z : ltb 0 (suc (length bs)) ≡ true = ltb_zero (length bs) in
+          ap (λ k. skip k bs) e ∙ ap (λ t. shut o p (b ∷ bs) (cond t (Some 0) None)) (sym z)
+      | false ↦
+          let same : ltb (suc (first bs)) (suc (length bs)) ≡ ltb (first bs) (length bs) = ltb_up (first bs) (length bs) in
+          let up : 1 + first bs ≡ suc (first bs) = omega arith in
+          comment_shut bs o (suc p)
+          ∙ elim (ltb (first bs) (length bs)) as (λ t. shut o (suc p) bs (cond t (Some (first bs)) None) ≡ shut o p (b ∷ bs) (cond t (Some (suc (first bs))) None)) [
+            | true ↦
+                let a : suc p + first bs + 1 ≡ p + suc (first bs) + 1 = omega arith in
+                let d : suc (first bs) + 1 ≡ suc (first bs + 1) = omega arith in
+                rw d (ap (λ k. skip k (drop (first bs + 1) bs)) a)
+            | false ↦ refl
+          ]
+          ∙ ap (λ t. shut o p (b ∷ bs) (cond t (Some (suc (first bs))) None)) (sym same)
+          ∙ ap (λ k. shut o p (b ∷ bs) (cond (ltb k (suc (length bs))) (Some k) None)) (sym up)
+    ]
 
-pub comment_out : (text : List ℕ) (p o : ℕ) → length text ≤ p → comment o p (drop p text) ≡ unclosed o
-comment_out text p o h = rw (drop_of_length-le text h) refl
+shut_closing : (text : List ℕ) (o from : ℕ) (r : Maybe ℕ) → shut o from (drop from text) r ≡ closing o text (option_map (λ n. from + n + 1) r)
+shut_closing text o from None = refl
+shut_closing text o from (Some n) =
+    let e : from + (n + 1) ≡ from + n + 1 = omega arith in
+    ap (skip (from + n + 1)) (drop-drop (n + 1) from text ∙ ap (λ k. drop k text) e)
 
-pub skip_out : (text : List ℕ) (p : ℕ) → length text ≤ p → skip p (drop p text) ≡ to p (drop p text)
-skip_out text p h = rw (drop_of_length-le text h) refl
+pub comment_closes : (text : List ℕ) (o from : ℕ) (r : Maybe ℕ) → r ≡ cond (ltb (first (drop from text)) (length (drop from text))) (Some (first (drop from text))) None → comment o from (drop from text) ≡ closing o text (option_map (λ n. from + n + 1) r)
+comment_closes text o from r e = comment_shut (drop from text) o from ∙ ap (shut o from (drop from text)) (sym e) ∙ shut_closing text o from r

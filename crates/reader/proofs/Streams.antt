@@ -1,12 +1,10 @@
 -- The bound on the number of tokens is never met, and one call of the reader unfolds the stream by one token.
 use Rattle.std.proofs.Common.{◌≡◌, ℕ, zero, suc, ◌+◌, ◌<◌, ◌≤◌, true, false, eqb, leb, List, [], ◌∷◌, length, drop, sym, refl, ap, ◌∙◌, arith, length-drop, drop-drop}
 use mathlib.Core.Option.{Option, none, some}
-use lib.Seq.{drop-length}
 use Rattle.model.specs.declared.tokens.Sign.{Sign}
 use Rattle.model.specs.declared.tokens.Word.{Word}
-use Rattle.model.specs.declared.faults.ReaderFault.{ReaderFault}
-use Rattle.model.specs.declared.faults.ReaderFault.TheVariants.{NoToken, OpenComment, LargeNumber, LongName}
-use Rattle.model.specs.Tokens.{Token, Stream, next, ends, breaks}
+use Rattle.model.specs.declared.faults.ReaderFault.TheVariants.{NoToken, LargeNumber, LongName}
+use Rattle.model.specs.Tokens.{Token, Stream, next}
 use Rattle.model.specs.Reading.{blank, letter, digit, name_byte, front, same, pick, words, long_signs, short_signs, worth, Skipped, to, unclosed, skip, comment, spelled, or_else, pair, token_at, name_of, number_of, sign_at, Got, got, faulty, reading, read_on, carry_on}
 use Rattle.reader.specs.Pieces.{token_from}
 use Rattle.reader.specs.Streams.{stream_from}
@@ -98,24 +96,10 @@ on_token : (go : ℕ → List ℕ → Stream) (q : ℕ) (cs : List ℕ) (t : Tok
 on_token go q [] t n h e = absurd (omega arith)
 on_token go q (b ∷ bs) t n h e = ap (carry_on go q (b ∷ bs)) (sym e)
 
-on_fault : (go : ℕ → List ℕ → Stream) (q : ℕ) (cs : List ℕ) (f : ReaderFault) → 0 < length cs → faulty f ≡ token_from cs → read_on go (to q cs) ≡ breaks f q
-on_fault go q [] f h e = absurd (omega arith)
-on_fault go q (b ∷ bs) f h e = ap (carry_on go q (b ∷ bs)) (sym e)
-
-module _ (text : List ℕ) (p : ℕ) where
-  pub first_token : (q n : ℕ) (t : Token) → q < length text → skip p (drop p text) ≡ to q (drop q text) → got t n ≡ token_from (drop q text) → 0 < n → stream_from text p ≡ next t q (stream_from text (q + n))
-  first_token q n t h s e more =
-      let l = length-drop q text in
-      let m = length-drop (q + n) text in
-      ap (read_on (reading (length text))) s ∙ on_token (reading (length text)) q (drop q text) t n (omega arith) e
-      ∙ ap (λ l. next t q (reading (length text) (q + n) l)) (drop-drop n q text)
-      ∙ ap (next t q) (enough (length text) (suc (length text)) (q + n) (drop (q + n) text) (omega arith) (omega arith))
-
-  pub first_fault : (q : ℕ) (f : ReaderFault) → q < length text → skip p (drop p text) ≡ to q (drop q text) → faulty f ≡ token_from (drop q text) → stream_from text p ≡ breaks f q
-  first_fault q f h s e = let l = length-drop q text in ap (read_on (reading (length text))) s ∙ on_fault (reading (length text)) q (drop q text) f (omega arith) e
-
-  pub first_open : (o : ℕ) → skip p (drop p text) ≡ unclosed o → stream_from text p ≡ breaks OpenComment o
-  first_open o s = ap (read_on (reading (length text))) s
-
-  pub first_end : (q : ℕ) → q ≡ length text → skip p (drop p text) ≡ to q (drop q text) → stream_from text p ≡ ends (length text)
-  first_end q e s = ap (read_on (reading (length text))) (s ∙ ap (λ n. to n (drop n text)) e ∙ ap (to (length text)) (drop-length text))
+pub first_token : (text : List ℕ) (p q n : ℕ) (t : Token) → q < length text → skip p (drop p text) ≡ to q (drop q text) → got t n ≡ token_from (drop q text) → 0 < n → stream_from text p ≡ next t q (stream_from text (q + n))
+first_token text p q n t h s e more =
+    let l = length-drop q text in
+    let m = length-drop (q + n) text in
+    ap (read_on (reading (length text))) s ∙ on_token (reading (length text)) q (drop q text) t n (omega arith) e
+    ∙ ap (λ l. next t q (reading (length text) (q + n) l)) (drop-drop n q text)
+    ∙ ap (next t q) (enough (length text) (suc (length text)) (q + n) (drop (q + n) text) (omega arith) (omega arith))

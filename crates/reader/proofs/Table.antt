@@ -1,11 +1,8 @@
 -- The rule of the byte-class table holds at every entry, by one test that is computed over all of them.
 use Rattle.std.proofs.Common.{◌≡◌, ℕ, zero, suc, ◌+◌, ◌<◌, Bool, true, false, ◌&&◌, T, eqb, List, [], ◌∷◌, length, get_or, sym, refl, ◌∙◌, subst, le_of_suc-le-suc, not-suc-le-zero, add-zero, add-suc, suc-add, zero-add}
 use Rattle.model.specs.Reading.{blank, letter, digit}
-use Rattle.reader.specs.Classes.{is_blank, is_brace, is_letter, is_digit, Classed, alike, right, every, passes, in_run}
+use Rattle.reader.specs.Classes.{is_blank, is_brace, is_letter, is_digit, Classed, alike, right, every}
 use Rattle.reader.specs.declared.classes.Class.{Class}
-use Rattle.reader.specs.declared.runs.Run.{Run}
-use Rattle.reader.specs.declared.runs.Run.TheVariants as Runs
-use Rattle.reader.specs.declared.classes.Class.TheVariants.{Blank as B, Brace as C, Letter as L, Digit as D, Underscore as U, Other as X}
 
 both_left : (a b : Bool) → T (a && b) → T a
 both_left true b t = tt
@@ -44,42 +41,3 @@ classed b c t =
       digits = alike_is _ _ (both_left _ _ t3);
       names = alike_is _ _ (both_right (alike (digit b) (is_digit c)) _ t3);
     }
-
--- a byte goes on with a run exactly when its class does
-pub run_classed : (run : Run) (b : ℕ) (c : Class) → Classed b c → passes run b ≡ in_run run c
-run_classed Runs.Name b c is = is.names
-run_classed Runs.Digits b c is = is.digits
-
--- what a class is not
-
-pub un_blank : (c : Class) → (c ≡ B → ⊥) → is_blank c ≡ false
-un_blank B h = absurd (h refl)
-un_blank C h = refl
-un_blank L h = refl
-un_blank D h = refl
-un_blank U h = refl
-un_blank X h = refl
-
-pub un_brace : (c : Class) → (c ≡ C → ⊥) → is_brace c ≡ false
-un_brace B h = refl
-un_brace C h = absurd (h refl)
-un_brace L h = refl
-un_brace D h = refl
-un_brace U h = refl
-un_brace X h = refl
-
-pub un_letter : (c : Class) → (c ≡ L → ⊥) → is_letter c ≡ false
-un_letter B h = refl
-un_letter C h = refl
-un_letter L h = absurd (h refl)
-un_letter D h = refl
-un_letter U h = refl
-un_letter X h = refl
-
-pub un_digit : (c : Class) → (c ≡ D → ⊥) → is_digit c ≡ false
-un_digit B h = refl
-un_digit C h = refl
-un_digit L h = refl
-un_digit D h = absurd (h refl)
-un_digit U h = refl
-un_digit X h = refl

@@ -3,8 +3,6 @@ use Rattle.std.specs.Prelude.{◌≡◌, ℕ, suc, Bool, true, false, ◌&&◌, 
 use Rattle.model.specs.Reading.{blank, letter, digit, name_byte}
 use Rattle.reader.specs.declared.classes.Class.{Class}
 use Rattle.reader.specs.declared.classes.Class.TheVariants.{Blank, Brace, Letter, Digit, Underscore, Other}
-use Rattle.reader.specs.declared.runs.Run.{Run}
-use Rattle.reader.specs.declared.runs.Run.TheVariants as Runs
 
 -- ── classes ─────────────────────────────────────────────────────────────────────────────────
 
@@ -74,15 +72,3 @@ right b c =
 abbrev pub every : {X : Type 0} → (ℕ → X → Bool) → ℕ → List X → Bool
 every f i [] = true
 every f i (x ∷ xs) = f i x && every f (suc i) xs
-
--- ── runs of bytes ───────────────────────────────────────────────────────────────────────────
-
--- the bytes of a run
-abbrev pub passes : Run → ℕ → Bool
-passes Runs.Name b = name_byte b
-passes Runs.Digits b = digit b
-
--- and their classes
-abbrev pub in_run : Run → Class → Bool
-in_run Runs.Name c = is_name_byte c
-in_run Runs.Digits c = is_digit c

@@ -1,7 +1,6 @@
 -- What the values that the reader's parts hand to each other stand for. Assumes nothing.
-use Rattle.std.specs.Prelude.{◌≡◌, ℕ, ◌<◌, ◌≤◌, true, false, List, [], ◌∷◌, length, take, drop, Some, None, Ok, Err, Option as Maybe, Result, ◌==◌}
+use Rattle.std.specs.Prelude.{◌≡◌, ℕ, ◌<◌, ◌≤◌, List, [], ◌∷◌, length, take, drop, Some, None, Ok, Err, Option as Maybe, Result}
 use Rattle.std.proofs.Math.Option.{Option, none, some}
-use Rattle.model.specs.declared.tokens.Word.{Word}
 use Rattle.model.specs.declared.tokens.Sign.{Sign}
 use Rattle.model.specs.declared.faults.ReaderFault.{ReaderFault}
 use Rattle.model.specs.declared.faults.ReaderFault.TheVariants.{NoToken, OpenComment}
@@ -66,6 +65,12 @@ abbrev pub FitsIn : List ℕ → Result Piece ReaderFault → Type 0
 FitsIn text (Ok p) = (0 < p.len) × (p.len ≤ length text) × Small p.token
 FitsIn text (Err f) = Unit {0}
 
+-- the token g at the front of the text, within it and cut from it, or the fault g
+pub record ReadAs (g : Got) (text : List ℕ) (r : Result Piece ReaderFault) : Type 0 where
+  pub is : got_of r ≡ g
+  pub fits : FitsIn text r
+  pub cut : CutIn text r
+
 -- a sign of two bytes was found only where there are two
 abbrev pub Two : List ℕ → Maybe Sign → Type 0
 Two bs None = Unit {0}
@@ -75,11 +80,6 @@ Two bs (Some s) = 1 < length bs
 abbrev pub Worth : List ℕ → Maybe ℕ → Type 0
 Worth ds None = 2147483647 < worth 0 ds
 Worth ds (Some v) = (v ≡ worth 0 ds) × (v ≤ 2147483647)
-
--- the entries of a table of words that have n bytes
-abbrev pub sized : ℕ → List (List ℕ × Word) → List (List ℕ × Word)
-sized n [] = []
-sized n (w ∷ ws) = elim (n == length w.0) [ true ↦ w ∷ sized n ws | false ↦ sized n ws ]
 
 -- ── gaps ────────────────────────────────────────────────────────────────────────────────────
 

@@ -12,12 +12,10 @@ fn closed(text: &[u8], from: usize) -> Option<usize>
     ensures within { Behind text.now from result }
     ensures closes { (o : ℕ) → comment o from (drop from text.now) ≡ closing o text.now result }
 {
-    for at in from..text.len() {
-        if text[at] == b'}' {
-            return Some(at + 1);
-        }
-    }
-    None
+    text[from..]
+        .iter()
+        .position(|b| *b == b'}')
+        .map(|n| from + n + 1)
 }
 
 // The place of the next byte that is neither a blank nor in a comment.
@@ -25,18 +23,18 @@ pub(crate) fn skip(text: &[u8], from: usize) -> Result<usize, Placed<ReaderFault
     requires { from ≤ length text.now }
     ensures { Skips text.now from result }
 {
+    // By hand: a comment moves the place on by more than one byte, so no `for` and no chain says it.
     let mut at = from;
     while at < text.len() {
         match class_of(text[at]) {
             Class::Blank => at += 1,
-            Class::Brace => match closed(text, at + 1) {
-                Some(after) => at = after,
-                None => return Err(Placed {
+            Class::Brace => {
+                at = closed(text, at + 1).ok_or(Placed {
                     fault: ReaderFault::OpenComment,
                     place: at,
-                }),
-            },
-            _ => return Ok(at),
+                })?;
+            }
+            _ => break,
         }
     }
     Ok(at)

@@ -14,6 +14,7 @@ pub mod tokens;
 mod words;
 
 /// A text, and how far it has been read.
+// Not the rest of it alone: places count from the start of the text.
 #[derive(Drop)]
 pub struct Reader<'a> {
     text: &'a [u8],

@@ -1,13 +1,14 @@
 //! Numbers.
-ghost use Rattle.std.specs.Prelude.{◌≡◌, ◌<◌, true, false, length, slice_index};
-ghost use Rattle.model.specs.Reading.{letter, digit};
-ghost use Rattle.reader.specs.Pieces.{token_from, got_of, FitsIn, CutIn, Worth};
+ghost use Rattle.std.specs.Prelude.{◌≡◌, true, slice_index};
+ghost use Rattle.model.specs.Reading.{digit};
+ghost use Rattle.reader.specs.Pieces.{token_from, ReadAs, Worth};
 
-use super::runs::{Run, run_len};
+use super::classes::is_digit;
+use super::runs::run_len;
 use super::tokens::{Piece, Token};
 use model::faults::ReaderFault;
 
-const GREATEST: u64 = 2147483647;
+const GREATEST: u64 = i32::MAX as u64;
 
 // What the digits are worth, unless that is above the greatest value. However many digits follow, it ends there.
 fn worth_of(digits: &[u8]) -> Option<u32>
@@ -15,7 +16,7 @@ fn worth_of(digits: &[u8]) -> Option<u32>
 {
     let mut value: u64 = 0;
     for d in digits {
-        value = value * 10 + d.saturating_sub(b'0') as u64;
+        value = value * 10 + u64::from(d.saturating_sub(b'0'));
         if value > GREATEST {
             return None;
         }
@@ -25,19 +26,14 @@ fn worth_of(digits: &[u8]) -> Option<u32>
 
 // The number at the front, which begins with a digit.
 pub(crate) fn number_at<'a>(rest: &[u8]) -> Result<Piece<'a>, ReaderFault>
-    requires some { 0 < length rest.now }
-    requires unlike { letter (slice_index rest.now 0) ≡ false }
-    requires begins { digit (slice_index rest.now 0) ≡ true }
-    ensures is { got_of result ≡ token_from rest.now }
-    ensures fits { FitsIn rest.now result }
-    ensures cut { CutIn rest.now result }
+    requires { digit (slice_index rest.now 0) ≡ true }
+    ensures { ReadAs (token_from rest.now) rest.now result }
 {
-    let len = run_len(rest, Run::Digits);
-    match worth_of(&rest[0..len]) {
-        Some(value) => Ok(Piece {
-            token: Token::Number(value),
-            len,
-        }),
-        None => Err(ReaderFault::LargeNumber),
-    }
+    let len = run_len(rest, is_digit);
+    // By `let .. else`: with `ok_or` and `?` the proof of the fault's end did not close.
+    let Some(value) = worth_of(&rest[..len]) else {
+        return Err(ReaderFault::LargeNumber);
+    };
+    let token = Token::Number(value);
+    Ok(Piece { token, len })
 }

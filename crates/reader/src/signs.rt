@@ -1,23 +1,22 @@
 //! The signs, the longest that fits.
-ghost use Rattle.std.specs.Prelude.{◌≡◌, ◌<◌, [], ◌∷◌, length};
+ghost use Rattle.std.specs.Prelude.{◌≡◌, [], ◌∷◌};
 ghost use Rattle.model.specs.Reading.{pick, same, long_signs, short_signs};
-ghost use Rattle.reader.specs.Pieces.{found, pair_from, sign_from, got_of, Two, FitsIn, CutIn};
+ghost use Rattle.reader.specs.Pieces.{found, pair_from, sign_from, Two, ReadAs};
 
 use super::tokens::{Piece, Token};
 use model::faults::ReaderFault;
 use model::tokens::Sign;
 
-fn long_sign(b: u8, c: u8) -> Option<Sign>
-    ensures { found result ≡ pick same (b ∷ c ∷ []) long_signs }
+// A sign of two bytes.
+fn long_at(rest: &[u8]) -> Option<Sign>
+    ensures is { found result ≡ pick same (pair_from rest.now) long_signs }
+    ensures fits { Two rest.now result }
 {
-    if c != b'=' {
-        return None;
-    }
-    match b {
-        b'!' => Some(Sign::Unequal),
-        b'<' => Some(Sign::AtMost),
-        b'>' => Some(Sign::AtLeast),
-        b':' => Some(Sign::Becomes),
+    match rest {
+        [b'!', b'=', ..] => Some(Sign::Unequal),
+        [b'<', b'=', ..] => Some(Sign::AtMost),
+        [b'>', b'=', ..] => Some(Sign::AtLeast),
+        [b':', b'=', ..] => Some(Sign::Becomes),
         _ => None,
     }
 }
@@ -42,35 +41,15 @@ fn short_sign(b: u8) -> Option<Sign>
     }
 }
 
-fn long_at(rest: &[u8]) -> Option<Sign>
-    requires { 0 < length rest.now }
-    ensures is { found result ≡ pick same (pair_from rest.now) long_signs }
-    ensures fits { Two rest.now result }
-{
-    if rest.len() > 1 {
-        long_sign(rest[0], rest[1])
-    } else {
-        None
-    }
-}
-
 pub(crate) fn sign_at<'a>(rest: &[u8]) -> Result<Piece<'a>, ReaderFault>
-    requires { 0 < length rest.now }
-    ensures is { got_of result ≡ sign_from rest.now }
-    ensures fits { FitsIn rest.now result }
-    ensures cut { CutIn rest.now result }
+    ensures { ReadAs (sign_from rest.now) rest.now result }
 {
-    match long_at(rest) {
-        Some(s) => Ok(Piece {
-            token: Token::Sign(s),
-            len: 2,
-        }),
-        None => match short_sign(rest[0]) {
-            Some(s) => Ok(Piece {
-                token: Token::Sign(s),
-                len: 1,
-            }),
-            None => Err(ReaderFault::NoToken),
-        },
+    if let Some(sign) = long_at(rest) {
+        let token = Token::Sign(sign);
+        return Ok(Piece { token, len: 2 });
     }
+    let first = rest.first().ok_or(ReaderFault::NoToken)?;
+    let sign = short_sign(*first).ok_or(ReaderFault::NoToken)?;
+    let token = Token::Sign(sign);
+    Ok(Piece { token, len: 1 })
 }

@@ -1,7 +1,7 @@
 //! One token of the text at a time.
-ghost use Rattle.std.specs.Prelude.{◌≡◌, ◌<◌, length};
+ghost use Rattle.std.specs.Prelude.{◌≡◌, length};
 ghost use Rattle.model.specs.Reading.{read};
-ghost use Rattle.reader.specs.Pieces.{token_from, got_of, FitsIn, CutIn};
+ghost use Rattle.reader.specs.Pieces.{token_from, ReadAs};
 ghost use Rattle.reader.specs.Streams.{text_of, stream_of, Unfolds, Advances, StandsAt};
 
 use super::Reader;
@@ -15,14 +15,11 @@ use model::faults::{Placed, ReaderFault};
 
 // The token at the front.
 fn token_at(rest: &[u8]) -> Result<Piece<'_>, ReaderFault>
-    requires { 0 < length rest.now }
-    ensures is { got_of result ≡ token_from rest.now }
-    ensures fits { FitsIn rest.now result }
-    ensures cut { CutIn rest.now result }
+    ensures { ReadAs (token_from rest.now) rest.now result }
 {
-    match class_of(rest[0]) {
-        Class::Letter => name_at(rest),
-        Class::Digit => number_at(rest),
+    match rest.first().map(|b| class_of(*b)) {
+        Some(Class::Letter) => name_at(rest),
+        Some(Class::Digit) => number_at(rest),
         _ => sign_at(rest),
     }
 }
@@ -56,15 +53,9 @@ impl<'a> Reader<'a> {
             self.at = place;
             return Ok(None);
         }
-        match token_at(&text[place..]) {
-            Ok(piece) => {
-                self.at = place + piece.len;
-                Ok(Some(Lexeme {
-                    token: piece.token,
-                    place,
-                }))
-            }
-            Err(fault) => Err(Placed { fault, place }),
-        }
+        let read = token_at(&text[place..]);
+        let Piece { token, len } = read.map_err(|fault| Placed { fault, place })?;
+        self.at = place + len;
+        Ok(Some(Lexeme { token, place }))
     }
 }

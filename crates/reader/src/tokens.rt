@@ -2,7 +2,7 @@
 use model::tokens::{Sign, Word};
 
 /// A token; a name holds the part of the text that it was read from.
-#[derive(Clone, Copy)]
+#[derive(Clone, Copy, PartialEq, Eq, Debug)]
 pub enum Token<'a> {
     Word(Word),
     Sign(Sign),
@@ -11,14 +11,14 @@ pub enum Token<'a> {
 }
 
 /// A token, and the place of its first byte.
-#[derive(Clone, Copy)]
+#[derive(Clone, Copy, PartialEq, Eq, Debug)]
 pub struct Lexeme<'a> {
     pub token: Token<'a>,
     pub place: usize,
 }
 
 /// A token, and how many bytes it takes.
-#[derive(Clone, Copy)]
+#[derive(Clone, Copy, PartialEq, Eq, Debug)]
 pub(crate) struct Piece<'a> {
     pub(crate) token: Token<'a>,
     pub(crate) len: usize,

@@ -1,149 +1,51 @@
 //! The reserved words, by their length first.
-ghost use Rattle.std.specs.Prelude.{◌≡◌};
+ghost use Rattle.std.specs.Prelude.{◌≡◌, map};
 ghost use Rattle.model.specs.Reading.{pick, same, words};
-ghost use Rattle.reader.specs.Pieces.{found, sized};
+ghost use Rattle.reader.specs.Pieces.{found};
 
 use model::tokens::Word;
 
-fn is(name: &[u8], word: &[u8]) -> bool
-    ensures { result ≡ same name.now word.now }
+// The one of these words that `name` is.
+fn among(choices: &[(&[u8], Word)], name: &[u8]) -> Option<Word>
+    ensures { found result ≡ pick same name.now (map (λ e. (e.0.now, e.1)) choices.now) }
 {
-    name == word
+    choices
+        .iter()
+        .find(|(spelling, _)| name == *spelling)
+        .map(|(_, word)| *word)
 }
 
-fn of_one(name: &[u8]) -> Option<Word>
-    ensures { found result ≡ pick same name.now (sized 1 words) }
-{
-    if is(name, b"e") { Some(Word::E) } else { None }
-}
-
-fn of_two(name: &[u8]) -> Option<Word>
-    ensures { found result ≡ pick same name.now (sized 2 words) }
-{
-    if is(name, b"se") {
-        Some(Word::Se)
-    } else if is(name, b"ou") {
-        Some(Word::Ou)
-    } else {
-        None
-    }
-}
-
-fn of_three(name: &[u8]) -> Option<Word>
-    ensures { found result ≡ pick same name.now (sized 3 words) }
-{
-    if is(name, b"var") {
-        Some(Word::Var)
-    } else if is(name, b"fim") {
-        Some(Word::Fim)
-    } else if is(name, b"nao") {
-        Some(Word::Nao)
-    } else if is(name, b"div") {
-        Some(Word::Div)
-    } else {
-        None
-    }
-}
-
-fn of_four(name: &[u8]) -> Option<Word>
-    ensures { found result ≡ pick same name.now (sized 4 words) }
-{
-    if is(name, b"faca") {
-        Some(Word::Faca)
-    } else if is(name, b"leia") {
-        Some(Word::Leia)
-    } else {
-        None
-    }
-}
-
-fn of_five(name: &[u8]) -> Option<Word>
-    ensures { found result ≡ pick same name.now (sized 5 words) }
-{
-    if is(name, b"falso") {
-        Some(Word::Falso)
-    } else if is(name, b"entao") {
-        Some(Word::Entao)
-    } else if is(name, b"senao") {
-        Some(Word::Senao)
-    } else {
-        None
-    }
-}
-
-fn of_six(name: &[u8]) -> Option<Word>
-    ensures { found result ≡ pick same name.now (sized 6 words) }
-{
-    if is(name, b"funcao") {
-        Some(Word::Funcao)
-    } else if is(name, b"inicio") {
-        Some(Word::Inicio)
-    } else {
-        None
-    }
-}
-
-fn of_seven(name: &[u8]) -> Option<Word>
-    ensures { found result ≡ pick same name.now (sized 7 words) }
-{
-    if is(name, b"inteiro") {
-        Some(Word::Inteiro)
-    } else if is(name, b"escreva") {
-        Some(Word::Escreva)
-    } else {
-        None
-    }
-}
-
-fn of_eight(name: &[u8]) -> Option<Word>
-    ensures { found result ≡ pick same name.now (sized 8 words) }
-{
-    if is(name, b"booleano") {
-        Some(Word::Booleano)
-    } else if is(name, b"programa") {
-        Some(Word::Programa)
-    } else if is(name, b"enquanto") {
-        Some(Word::Enquanto)
-    } else {
-        None
-    }
-}
-
-fn of_ten(name: &[u8]) -> Option<Word>
-    ensures { found result ≡ pick same name.now (sized 10 words) }
-{
-    if is(name, b"verdadeiro") {
-        Some(Word::Verdadeiro)
-    } else {
-        None
-    }
-}
-
-fn of_twelve(name: &[u8]) -> Option<Word>
-    ensures { found result ≡ pick same name.now (sized 12 words) }
-{
-    if is(name, b"procedimento") {
-        Some(Word::Procedimento)
-    } else {
-        None
-    }
-}
-
-// The reserved word that `name` is, by its length first.
+// The reserved word that `name` is.
+// By its length first: one `match` on the words took 1.3 times as long, a search of one list 2.6 times.
 pub(crate) fn word_of(name: &[u8]) -> Option<Word>
     ensures { found result ≡ pick same name.now words }
 {
+    use Word::*;
+
     match name.len() {
-        1 => of_one(name),
-        2 => of_two(name),
-        3 => of_three(name),
-        4 => of_four(name),
-        5 => of_five(name),
-        6 => of_six(name),
-        7 => of_seven(name),
-        8 => of_eight(name),
-        10 => of_ten(name),
-        12 => of_twelve(name),
+        1 => among(&[(b"e", E)], name),
+        2 => among(&[(b"se", Se), (b"ou", Ou)], name),
+        3 => among(
+            &[(b"var", Var), (b"fim", Fim), (b"nao", Nao), (b"div", Div)],
+            name,
+        ),
+        4 => among(&[(b"faca", Faca), (b"leia", Leia)], name),
+        5 => among(
+            &[(b"falso", Falso), (b"entao", Entao), (b"senao", Senao)],
+            name,
+        ),
+        6 => among(&[(b"funcao", Funcao), (b"inicio", Inicio)], name),
+        7 => among(&[(b"inteiro", Inteiro), (b"escreva", Escreva)], name),
+        8 => among(
+            &[
+                (b"booleano", Booleano),
+                (b"programa", Programa),
+                (b"enquanto", Enquanto),
+            ],
+            name,
+        ),
+        10 => among(&[(b"verdadeiro", Verdadeiro)], name),
+        12 => among(&[(b"procedimento", Procedimento)], name),
         _ => None,
     }
 }

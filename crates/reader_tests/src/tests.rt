@@ -3,157 +3,96 @@ use reader::Reader;
 use reader::tokens::{Lexeme, Token};
 use report::faults::FaultReport;
 use report::spelling::{sign_text, word_text};
-use std::process::Abort;
 use std::test::Fail;
 
 type Read<'a> = Result<Option<Lexeme<'a>>, Placed<ReaderFault>>;
 
-// The next token is a name that is spelled so, at this place.
-fn is_name(rt: &impl Abort, read: Read<'_>, spelling: &[u8], at: usize) -> Result<(), Fail> {
-    match read {
-        Ok(
-            Some(
-                Lexeme {
-                    token: Token::Name(name),
-                    place,
-                },
-            ),
-        ) => {
-            assert_eq!(rt; name, spelling);
-            assert_eq!(rt; place, at);
-            Ok(())
-        }
-        _ => Err(Fail::new("a name was expected")),
+fn name<'a>(spelling: &'a [u8], place: usize) -> Read<'a> {
+    let token = Token::Name(spelling);
+    Ok(Some(Lexeme { token, place }))
+}
+
+fn number<'a>(worth: u32, place: usize) -> Read<'a> {
+    let token = Token::Number(worth);
+    Ok(Some(Lexeme { token, place }))
+}
+
+// How the word or the sign that was read is spelled, and its place.
+fn fixed(read: Read<'_>) -> Option<(&'static str, usize)> {
+    let lexeme = read.ok()??;
+    match lexeme.token {
+        Token::Word(word) => Some((word_text(word), lexeme.place)),
+        Token::Sign(sign) => Some((sign_text(sign), lexeme.place)),
+        _ => None,
     }
 }
 
-fn is_number(rt: &impl Abort, read: Read<'_>, worth: u32, at: usize) -> Result<(), Fail> {
-    match read {
-        Ok(
-            Some(
-                Lexeme {
-                    token: Token::Number(value),
-                    place,
-                },
-            ),
-        ) => {
-            assert_eq!(rt; value, worth);
-            assert_eq!(rt; place, at);
-            Ok(())
-        }
-        _ => Err(Fail::new("a number was expected")),
-    }
-}
-
-// The next token is a word or a sign that is spelled so.
-fn is_fixed(rt: &impl Abort, read: Read<'_>, spelling: &str, at: usize) -> Result<(), Fail> {
-    match read {
-        Ok(
-            Some(
-                Lexeme {
-                    token: Token::Word(word),
-                    place,
-                },
-            ),
-        ) => {
-            assert_eq!(rt; word_text(word), spelling);
-            assert_eq!(rt; place, at);
-            Ok(())
-        }
-        Ok(
-            Some(
-                Lexeme {
-                    token: Token::Sign(sign),
-                    place,
-                },
-            ),
-        ) => {
-            assert_eq!(rt; sign_text(sign), spelling);
-            assert_eq!(rt; place, at);
-            Ok(())
-        }
-        _ => Err(Fail::new("a word or a sign was expected")),
-    }
-}
-
-fn is_fault(rt: &impl Abort, read: Read<'_>, number: u8, at: usize) -> Result<(), Fail> {
-    match read {
-        Err(placed) => {
-            assert_eq!(rt; placed.fault.number(), number);
-            assert_eq!(rt; placed.place, at);
-            Ok(())
-        }
-        Ok(_) => Err(Fail::new("a fault was expected")),
-    }
-}
-
-fn is_end(read: Read<'_>) -> Result<(), Fail> {
-    match read {
-        Ok(None) => Ok(()),
-        _ => Err(Fail::new("the end was expected")),
-    }
+// The number and the place of the fault that was read.
+fn fault(read: Read<'_>) -> Option<(u8, usize)> {
+    read.err()
+        .map(|placed| (placed.fault.number(), placed.place))
 }
 
 #[test]
-fn a_number_ends_where_its_digits_do(rt: HostRuntime) -> Result<(), Fail> {
+fn a_number_ends_where_its_digits_do(rt: HostRuntime) {
     let mut reader = Reader::new(b"12ab 3senao 1_0");
-    is_number(&rt, reader.next(), 12, 0)?;
-    is_name(&rt, reader.next(), b"ab", 2)?;
-    is_number(&rt, reader.next(), 3, 5)?;
-    is_fixed(&rt, reader.next(), "senao", 6)?;
-    is_number(&rt, reader.next(), 1, 12)?;
-    is_fault(&rt, reader.next(), 10, 13)?;
-    is_fault(&rt, reader.next(), 10, 13)
+    assert_eq!(rt; reader.next(), number(12, 0));
+    assert_eq!(rt; reader.next(), name(b"ab", 2));
+    assert_eq!(rt; reader.next(), number(3, 5));
+    assert_eq!(rt; fixed(reader.next()), Some(("senao", 6)));
+    assert_eq!(rt; reader.next(), number(1, 12));
+    assert_eq!(rt; fault(reader.next()), Some((10, 13)));
+    assert_eq!(rt; fault(reader.next()), Some((10, 13)));
 }
 
 #[test]
-fn the_longest_sign_is_taken(rt: HostRuntime) -> Result<(), Fail> {
+fn the_longest_sign_is_taken(rt: HostRuntime) {
     let mut reader = Reader::new(b"<=<>=:=: !=!");
-    is_fixed(&rt, reader.next(), "<=", 0)?;
-    is_fixed(&rt, reader.next(), "<", 2)?;
-    is_fixed(&rt, reader.next(), ">=", 3)?;
-    is_fixed(&rt, reader.next(), ":=", 5)?;
-    is_fixed(&rt, reader.next(), ":", 7)?;
-    is_fixed(&rt, reader.next(), "!=", 9)?;
-    is_fault(&rt, reader.next(), 10, 11)
+    assert_eq!(rt; fixed(reader.next()), Some(("<=", 0)));
+    assert_eq!(rt; fixed(reader.next()), Some(("<", 2)));
+    assert_eq!(rt; fixed(reader.next()), Some((">=", 3)));
+    assert_eq!(rt; fixed(reader.next()), Some((":=", 5)));
+    assert_eq!(rt; fixed(reader.next()), Some((":", 7)));
+    assert_eq!(rt; fixed(reader.next()), Some(("!=", 9)));
+    assert_eq!(rt; fault(reader.next()), Some((10, 11)));
 }
 
 #[test]
-fn comments_do_not_nest(rt: HostRuntime) -> Result<(), Fail> {
+fn comments_do_not_nest(rt: HostRuntime) {
     let mut reader = Reader::new(b" { a { b } e }");
-    is_fixed(&rt, reader.next(), "e", 11)?;
-    is_fault(&rt, reader.next(), 10, 13)
+    assert_eq!(rt; fixed(reader.next()), Some(("e", 11)));
+    assert_eq!(rt; fault(reader.next()), Some((10, 13)));
 }
 
 #[test]
-fn an_open_comment_is_told_at_its_brace(rt: HostRuntime) -> Result<(), Fail> {
+fn an_open_comment_is_told_at_its_brace(rt: HostRuntime) {
     let mut reader = Reader::new(b"fim\n\t{ e");
-    is_fixed(&rt, reader.next(), "fim", 0)?;
-    is_fault(&rt, reader.next(), 11, 5)
+    assert_eq!(rt; fixed(reader.next()), Some(("fim", 0)));
+    assert_eq!(rt; fault(reader.next()), Some((11, 5)));
 }
 
 #[test]
-fn numbers_have_any_number_of_leading_zeros(rt: HostRuntime) -> Result<(), Fail> {
+fn numbers_have_any_number_of_leading_zeros(rt: HostRuntime) {
     let mut reader = Reader::new(b"00000000000000000000000000000002147483647 2147483648");
-    is_number(&rt, reader.next(), 2147483647, 0)?;
-    is_fault(&rt, reader.next(), 12, 42)
+    assert_eq!(rt; reader.next(), number(2147483647, 0));
+    assert_eq!(rt; fault(reader.next()), Some((12, 42)));
 }
 
 #[test]
-fn names_have_thirty_bytes_at_most(rt: HostRuntime) -> Result<(), Fail> {
+fn names_have_thirty_bytes_at_most(rt: HostRuntime) {
     let mut reader = Reader::new(b"abcdefghij_bcdefghij0123456789 abcdefghij_bcdefghij01234567890");
-    is_name(&rt, reader.next(), b"abcdefghij_bcdefghij0123456789", 0)?;
-    is_fault(&rt, reader.next(), 13, 31)
+    assert_eq!(rt; reader.next(), name(b"abcdefghij_bcdefghij0123456789", 0));
+    assert_eq!(rt; fault(reader.next()), Some((13, 31)));
 }
 
 #[test]
-fn case_counts_and_blanks_do_not(rt: HostRuntime) -> Result<(), Fail> {
+fn case_counts_and_blanks_do_not(rt: HostRuntime) {
     let mut reader = Reader::new(b"\r\n Se se {}seE  ");
-    is_name(&rt, reader.next(), b"Se", 3)?;
-    is_fixed(&rt, reader.next(), "se", 6)?;
-    is_name(&rt, reader.next(), b"seE", 11)?;
-    is_end(reader.next())?;
-    is_end(reader.next())
+    assert_eq!(rt; reader.next(), name(b"Se", 3));
+    assert_eq!(rt; fixed(reader.next()), Some(("se", 6)));
+    assert_eq!(rt; reader.next(), name(b"seE", 11));
+    assert_eq!(rt; reader.next(), Ok(None));
+    assert_eq!(rt; reader.next(), Ok(None));
 }
 
 #[test]

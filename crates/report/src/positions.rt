@@ -3,7 +3,7 @@ ghost use Rattle.std.specs.Prelude.{◌≡◌, suc, take};
 ghost use Rattle.report.specs.Positions.{newlines, since_newline};
 
 /// A line and a column, each counted from 1; a column counts bytes.
-#[derive(Clone, Copy)]
+#[derive(Clone, Copy, PartialEq, Eq, Debug)]
 pub struct Position {
     pub line: usize,
     pub column: usize,
@@ -14,16 +14,15 @@ pub fn locate(text: &[u8], place: usize) -> Position
     ensures line { result.line ≡ suc (newlines (take place text.now)) }
     ensures column { result.column ≡ suc (since_newline 0 (take place text.now)) }
 {
-    let mut line: usize = 1;
-    let mut column: usize = 1;
-    let end = place.min(text.len());
-    for i in 0..end {
-        if text[i] == b'\n' {
-            line += 1;
-            column = 1;
-        } else {
-            column += 1;
-        }
+    let before = &text[..place.min(text.len())];
+    let lines = before.iter().filter(|byte| **byte == b'\n').count();
+    let bytes = before
+        .iter()
+        .rev()
+        .take_while(|byte| **byte != b'\n')
+        .count();
+    Position {
+        line: lines + 1,
+        column: bytes + 1,
     }
-    Position { line, column }
 }

@@ -1,8 +1,8 @@
 -- How many records the open blocks have, which are those of the innermost, and whether it has a name already.
 use Rattle.std.proofs.Common.{◌≡◌, ℕ, suc, ◌+◌, ◌<◌, ◌≤◌, Bool, true, false, ◌||◌, ltb, leb, List, [], ◌∷◌, ◌++◌, reverse, length, take, drop, is_some, sym, refl, ap, ◌∙◌, ⊎_elim, append_assoc, append-nil, arith, length-append, le-ltb, lt-ltb, le-leb}
 use mathlib.Core.Option.{Option, none, some}
-use borrow.Author.Tests.{lt-leb}
-use Rattle.std.proofs.lemmas.Bool.{cases_Bool}
+use Rattle.std.proofs.Math.Bool.{or_comm}
+use Rattle.std.proofs.lemmas.Bool.{cases_Bool, lt-leb}
 use Rattle.std.proofs.lemmas.List.{reverse-append, reverse-reverse, length-reverse, take-append-le, drop-append-le, take_all}
 use lib.Seq.{drop-length}
 use Rattle.model.specs.Reading.{same}
@@ -89,19 +89,13 @@ module _ (text s : List ℕ) (over : Bool) where
   found_present first begins last inner own none f = ap is_some f
   found_present first begins last inner own (some d) f = ap is_some f.1
 
-  either_way : (a b : Bool) → a || b ≡ b || a
-  either_way true true = refl
-  either_way true false = refl
-  either_way false true = refl
-  either_way false false = refl
-
   pub has_already : (o : Level) (around : List Name → Type 0) (ns : List Name) (last : Option ℕ) (inner : ℕ) (x : Block text over last inner o around ns) → is_some (newest text s (x.top ++ x.own)) ≡ declared_here s o.scope
   has_already o around ns last inner x =
       let f = finds text s over o.scope.first o.begins last inner [] o.scope.known x.own x.known in
       let g : is_some (newest text s x.own) ≡ present (spelled_so s o.scope.known)
       = ap (λ ys. is_some (newest text s ys)) (sym (append-nil x.own)) ∙ found_present o.scope.first o.begins last inner x.own (spelled_so s o.scope.known) f in
       waits_first o.scope.first o.scope.waiting x.top x.own x.waiting ∙ ap (λ b. waits s o.scope.waiting || b) g
-      ∙ either_way (waits s o.scope.waiting) (present (spelled_so s o.scope.known))
+      ∙ or_comm (waits s o.scope.waiting) (present (spelled_so s o.scope.known))
 
 -- ── what the judge says of a new name ───────────────────────────────────────────────────────
 

@@ -8,14 +8,22 @@ use Rattle.model.specs.declared.script.Ty.{Ty}
 use Rattle.model.specs.Tree
 use Rattle.model.specs.Names.{Kind, a_variable, a_procedure, a_function, Known, routine_number, alike_numbers}
 use Rattle.model.specs.Blocks.{all_known, program_opened}
-use Rattle.scopes.specs.Records.{spelling, with_type, left}
-use Rattle.scopes.specs.Levels.{Level, waited, grouped, named, entered, ended, StandsFor, Recorded, Waiting, Below, Knows, SpelledAt}
+use Rattle.scopes.specs.declared.Scopes.{Scopes}
+use Rattle.scopes.specs.Records.{text_of, records_of, room_of, spelling, with_type, left}
+use Rattle.scopes.specs.Levels.{Level, waited, grouped, named, entered, ended, StandsFor, Recorded, Waiting, Below, Knows, Holds, Keeps, SpelledAt, RoomLeft}
+use Rattle.scopes.proofs.Counting.{counted}
 use Rattle.scopes.proofs.Seeing.{none_wait}
 
 -- the same records, by equal lists
 pub carried : (text text' : List ℕ) (over : Bool) (last : Option ℕ) (inner : ℕ) (os : List Level) (ns ns' : List Name) → text' ≡ text → ns' ≡ ns → Knows text over last inner os ns → Knows text' over last inner os ns'
 carried text text' over last inner os ns ns' e f x =
     subst (λ t. Knows t over last inner os ns') (sym e) (subst (λ m. Knows text over last inner os m) (sym f) x)
+
+-- a record more, where there was one left
+pub one_more : (s t : Scopes) (n : Name) (over : Bool) (o : Level) (os os' : List Level) → Holds s over (o ∷ os) → RoomLeft s (o ∷ os) →
+    (length (records_of s) < room_of s → records_of t ≡ n ∷ records_of s) → Keeps s t → Knows (text_of s) over none 0 os' (n ∷ records_of s) → Holds t over os'
+one_more s t n over o os os' x room lays keeps k =
+    carried (text_of s) (text_of t) over none 0 os' (n ∷ records_of s) (records_of t) keeps.0 (lays (omega (arith, counted (text_of s) over (o ∷ os) (records_of s) none 0 x))) k
 
 -- how a record is spelled that is laid for a name at its place
 pub as_spelled : (text n : List ℕ) (p l : ℕ) → SpelledAt text n p → (length n ≤ 30 → l ≡ length n) → n ≡ take l (drop p text)

@@ -11,6 +11,7 @@ use Rattle.model.specs.Tree.{Role}
 use Rattle.model.specs.Blocks.{wait, typed, with_routine_name, opened, with_routine}
 use Rattle.model.specs.Code.{Laid, cell_of, begin_of}
 use Rattle.model.specs.Judged.{Judged, refuses}
+use Rattle.model.specs.declared.faults.Cause.{Cause}
 use Rattle.model.specs.declared.faults.Fault.{Fault}
 use Rattle.pile.specs.Piles.{SameLoan}
 use Rattle.scopes.specs.declared.Scopes.{Scopes}
@@ -152,6 +153,10 @@ pub data Matches (ls : List Laid) (over : Bool) : Maybe Name → Option Seen →
 -- ── whether a block admits a name ───────────────────────────────────────────────────────────
 
 -- what the judge gives: j where the name is admitted, and the fault where it is not
+abbrev pub decided : Judged → Result (Unit {0}) Cause → Judged
+decided j (Ok u) = j
+decided j (Err k) = refuses k
+
 abbrev pub told : Judged → Result (Unit {0}) Fault → Judged
 told j (Ok u) = j
 told j (Err f) = refuses f.cause

@@ -1,10 +1,12 @@
 -- The records of names, newest first, and which of them a name finds. Assumes nothing.
 use Rattle.std.specs.Prelude.{ℕ, true, false, List, [], ◌∷◌, reverse, length, take, drop, Some, None, Option}
-use Rattle.pile.specs.Piles.{memory, front}
+use Rattle.std.specs.Borrow.{MutBor}
+use Rattle.pile.specs.Piles.{lent, memory, front}
 use Rattle.model.specs.Reading.{same}
 use Rattle.model.specs.declared.script.Ty.{Ty}
 use Rattle.model.specs.declared.names.NameKind.TheVariants.{Nothing, Variable}
 use Rattle.scopes.specs.declared.names.Name.{Name}
+use Rattle.scopes.specs.declared.Mark.{Mark}
 use Rattle.scopes.specs.declared.Scopes.{Scopes}
 
 -- a blank record
@@ -18,9 +20,20 @@ text_of s = s.text.now
 abbrev pub records_of : Scopes → List Name
 records_of s = reverse (front s.records)
 
+-- the loan that they lie in, and the whole memory
+abbrev pub loan_of : Scopes → MutBor (List Name)
+loan_of s = lent s.records
+
+abbrev pub memory_of : Scopes → List Name
+memory_of s = memory s.records
+
 -- how many there may be
 abbrev pub room_of : Scopes → ℕ
-room_of s = length (memory s.records)
+room_of s = length (memory_of s)
+
+-- how many records lie below a mark
+abbrev pub level_of : Mark → ℕ
+level_of m = m.level
 
 -- how the name of a record is spelled in the text
 abbrev pub spelling : List ℕ → Name → List ℕ

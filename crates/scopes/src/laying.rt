@@ -1,9 +1,8 @@
 //! Declarations: records laid, given their type, and cut back.
 ghost use Rattle.std.specs.Prelude.{◌≡◌, ℕ, ◌+◌, ◌<◌, ◌≤◌, Bool, false, List, [], ◌∷◌, ◌++◌, length};
-ghost use Rattle.pile.specs.Piles.{memory, front};
 ghost use Rattle.model.specs.Names.{records, a_procedure, a_function};
 ghost use Rattle.model.specs.Tree as Tree;
-ghost use Rattle.scopes.specs.Records.{text_of, records_of, room_of, with_type, left};
+ghost use Rattle.scopes.specs.Records.{text_of, records_of, loan_of, memory_of, room_of, level_of, left};
 ghost use Rattle.scopes.specs.Levels.{Level, scopes_of, waited, grouped, named, entered, ended, Holds, Keeps, SpelledAt, RoomLeft};
 ghost use Rattle.scopes.specs.declared.names.Name as Names;
 
@@ -13,30 +12,18 @@ use model::names::NameKind;
 use model::script::Ty;
 use pile::Pile;
 
-// The longest length that a record can tell; names are shorter.
-const LONGEST: usize = 255;
-
-// How many bytes a name has.
+// How many bytes a name has, as a record tells it.
 fn length_of(name: &[u8]) -> u8
     ensures { length name.now ≤ 30 → result ≡ length name.now }
 {
-    let length = name.len();
-    if length > LONGEST { 0 } else { length as u8 }
-}
-
-// Spends the mark, for where it stands.
-fn spent(block: Mark) -> usize
-    ensures { result ≡ block.level }
-{
-    let Mark { level } = block;
-    level
+    u8::try_from(name.len()).unwrap_or(0)
 }
 
 impl<'a> Scopes<'a> {
     /// No names of the text yet, over the memory lent.
     pub fn new(text: &'a [u8], names: &'a mut [Name]) -> Scopes<'a>
         ensures none { (records_of result ≡ []) × (text_of result ≡ text.now) }
-        ensures lent { (memory result.records ≡ names.old) × (result.records.cells.ghost_name ≡ names.entry.ghost_name) }
+        ensures lent { (memory_of result ≡ names.old) × ((loan_of result).ghost_name ≡ names.entry.ghost_name) }
     {
         Scopes {
             text,
@@ -46,10 +33,9 @@ impl<'a> Scopes<'a> {
 
     /// The memory, back from the records.
     pub fn into_memory(self) -> &'a mut [Name]
-        ensures { result ≡ self.entry.records.cells }
+        ensures { result ≡ loan_of self.entry }
     {
-        let Scopes { text: _, records } = self;
-        let (memory, _) = records.into_parts();
+        let (memory, _) = self.records.into_parts();
         memory
     }
 
@@ -62,7 +48,7 @@ impl<'a> Scopes<'a> {
 
     /// The mark of a block that opens now.
     pub fn mark(&self) -> Mark
-        ensures { result.level ≡ length (records_of self.now) }
+        ensures { level_of result ≡ length (records_of self.now) }
     {
         Mark {
             level: self.count(),
@@ -78,6 +64,7 @@ impl<'a> Scopes<'a> {
     }
 
     /// A variable more in the innermost block, which waits for its type.
+    // Each of the three writes its record out: one function for them would take as many arguments as a record has fields.
     pub fn lay_variable(&mut self, name: &[u8], place: u16, cell: u16)
         ensures waits { (over : Bool) (o : Level) (os : List Level) → Holds self.old over (o ∷ os) → SpelledAt (text_of self.old) name.now place → RoomLeft self.old (o ∷ os) → cell ≡ o.scope.first + o.scope.cells → Holds self.new over (waited o name.now ∷ os) }
         ensures keeps { Keeps self.old self.new }
@@ -127,52 +114,21 @@ impl<'a> Scopes<'a> {
         ensures leaves { (n : Names.Name) (ns : List Names.Name) → records_of self.old ≡ n ∷ ns → records_of self.new ≡ left n ∷ ns }
         ensures keeps { Keeps self.old self.new }
     {
-        match self.records.take() {
-            Ok(known) => {
-                let _ = self.records.lay(Name {
-                    place: known.place,
-                    length: known.length,
-                    kind: known.kind,
-                    cell: known.cell,
-                    entry: known.entry,
-                    inside: false,
-                });
-            }
-            Err(_) => {}
+        if let Ok(known) = self.records.take() {
+            let _ = self.records.lay(Name {
+                inside: false,
+                ..known
+            });
         }
     }
 
     /// Closes the innermost block, that of a routine: its names are cut back to the mark.
     pub fn close(&mut self, block: Mark)
-        ensures closes { (over : Bool) (i o : Level) (os : List Level) (b : Tree.Block) → Holds self.old over (i ∷ o ∷ os) → block.level ≡ records (scopes_of (o ∷ os)) → Holds self.new over (ended o b ∷ os) }
+        ensures closes { (over : Bool) (i o : Level) (os : List Level) (b : Tree.Block) → Holds self.old over (i ∷ o ∷ os) → level_of block ≡ records (scopes_of (o ∷ os)) → Holds self.new over (ended o b ∷ os) }
         ensures keeps { Keeps self.old self.new }
     {
-        let level = spent(block);
-        let _ = self.records.cut(level);
+        let _ = self.records.cut(block.level);
         self.leave();
-    }
-
-    // The record at a place is that of a variable of the type.
-    fn give_one(&mut self, at: usize, ty: Ty)
-        ensures gives { (before after : List Names.Name) (n : Names.Name) → front self.old.records ≡ before ++ (n ∷ after) → length before ≡ at → front self.new.records ≡ before ++ (with_type ty n ∷ after) }
-        ensures keeps { Keeps self.old self.new }
-    {
-        match self.records.read(at) {
-            Ok(known) => {
-                let _ = self.records.change(
-                    at,
-                    Name {
-                        place: known.place,
-                        length: known.length,
-                        kind: NameKind::Variable(ty),
-                        cell: known.cell,
-                        entry: known.entry,
-                        inside: known.inside,
-                    },
-                );
-            }
-            Err(_) => {}
-        }
     }
 
     /// The variables of the innermost block that wait, whose records are those from `from` on, have this type.
@@ -180,8 +136,7 @@ impl<'a> Scopes<'a> {
         ensures gives { (over : Bool) (o : Level) (os : List Level) → Holds self.old over (o ∷ os) → from + length o.scope.waiting ≡ records (scopes_of (o ∷ os)) → Holds self.new over (grouped o ty ∷ os) }
         ensures keeps { Keeps self.old self.new }
     {
-        for at in from..self.count() {
-            self.give_one(at, ty);
-        }
+        let kind = NameKind::Variable(ty);
+        self.records.update(from, |known| Name { kind, ..known });
     }
 }

@@ -12,6 +12,10 @@ use crate::names::Name;
 use pile::Pile;
 
 /// The records of the names that are declared in the open blocks of a text.
+//
+// The clauses take the open blocks and `over` as arguments: they are the judge's and the table's, and cannot be told from
+// these fields, and a ghost field keeps a fact, no data.
+// What stays, `Keeps`, is a clause of each method: it relates two moments.
 #[derive(Drop)]
 pub struct Scopes<'a> {
     text: &'a [u8],

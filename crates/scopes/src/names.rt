@@ -5,7 +5,11 @@ use model::names::NameKind;
 ///
 /// A variable has a cell, a procedure an entry, a function both: the cell is that of its result, which is set only
 /// while the function's block is open.
-#[derive(Clone, Copy)]
+//
+// Not the shared record of `model`, which the definitions of the calls name: that has no `inside`, and an entry of 32 bits.
+// Flat, with 0 or `false` where a kind has none: as payloads of the kinds, cell and entry would be named for each. By
+// place and length of the spelling, and no slice: the records lie in memory that is lent for longer than the text.
+#[derive(Clone, Copy, PartialEq, Eq, Debug)]
 pub struct Name {
     pub place: u16,
     pub length: u8,

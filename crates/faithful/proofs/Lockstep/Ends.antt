@@ -19,7 +19,8 @@ use Rattle.model.specs.Machine.{Machine, Went, goes, halts, stops, no_entry, ins
 use Rattle.model.specs.Codes.{ALLOC, DALLOC, HLT, START}
 use Rattle.faithful.proofs.Ideal.Machine.{Cells, table}
 use Rattle.faithful.proofs.Lockstep.Memory.{LaidOut, length_write, write_in}
-use Rattle.faithful.proofs.Lockstep.Tests.{leb_false_lt, leb-true, leb_true_le, ltb-true, when_true}
+use Rattle.std.proofs.lemmas.Bool.{leb-false, le-leb, leb-true, lt-ltb}
+use Rattle.faithful.proofs.Lockstep.Tests.{when_true}
 use Rattle.faithful.proofs.Lockstep.Steps.{real}
 
 -- every fixed cell is 0
@@ -46,7 +47,7 @@ step_at_entry : (E : List Entry) (i : ℕ) (e : Entry) (mem : List ℤ) (f : ℕ
 step_at_entry E i e mem f h c eq =
     let lt : i < length E = entry_in_list E i (omega (arith, ap (λ z. z.code) eq)) in
     when_true (λ r. r ≡ instruction E e (record { memory = mem; fill = f; at = i }) h) _ _ (ltb i (length E))
-    (ltb-true i (length E) lt) (ap (λ x. instruction E x (record { memory = mem; fill = f; at = i }) h) eq)
+    (lt-ltb i (length E) lt) (ap (λ x. instruction E x (record { memory = mem; fill = f; at = i }) h) eq)
 
 module _ (E : List Entry) (V p : ℕ) where
   pub start_goes : table E 0 ≡ plain START p → (mem : List ℤ) (h : Meaning) →
@@ -80,13 +81,13 @@ module _ (E : List Entry) (V p : ℕ) where
           × LaidOut V (length mem) zeros [] mem1)
           ⊎ ((step E (record { memory = mem; fill = 0; at = 1 }) h ≡ stops CellsFull) × (length mem < V))
       at true e w =
-          let le : V ≤ length mem = omega (arith, leb_true_le (0 + V) (length mem) e) in
+          let le : V ≤ length mem = omega (arith, leb-true (0 + V) (length mem) e) in
           inl (
             mem1,
             w ∙ ap (λ x. goes (record { memory = mem1; fill = x; at = 2 }) h) (zero-add V),
             record { long = length_write mem 0 zs; room = le; low = cleared le; high = tt },
           )
-      at false e w = inr (w, omega (arith, leb_false_lt (0 + V) (length mem) e))
+      at false e w = inr (w, omega (arith, leb-false (0 + V) (length mem) e))
 
   -- the fixed cells are let go
   pub release_goes : (q : ℕ) → table E q ≡ entry DALLOC 0 V p → (mem : List ℤ) (h : Meaning) →
@@ -102,7 +103,7 @@ module _ (E : List Entry) (V p : ℕ) where
         ]
       ] in
       step_at_entry E q (entry DALLOC 0 V p) mem V h (omega arith) eq
-      ∙ when_true (λ x. x ≡ r) _ _ (leb V V) (leb-true V V (omega arith)) (subst (λ z. F z ≡ r) (sym e0) refl)
+      ∙ when_true (λ x. x ≡ r) _ _ (leb V V) (le-leb V V (omega arith)) (subst (λ z. F z ≡ r) (sym e0) refl)
 
   pub halt_halts : (q : ℕ) → table E q ≡ plain HLT p → (mem : List ℤ) (h : Meaning) →
       step E (record { memory = mem; fill = 0; at = q }) h ≡ halts

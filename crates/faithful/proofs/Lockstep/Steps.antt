@@ -25,7 +25,8 @@ use Rattle.model.specs.Promise.{Each}
 use Rattle.faithful.proofs.Ideal.Machine.{table, Cells, Io, state, Moved, next, stop, halt, crash, with_result, perform, updated, save, clear, restore, carry_out, do_combine, ideal_step, pop, return_to, with_taken, with_written}
 use Rattle.faithful.proofs.Placed.Entries.{SoundEntry, sound_start, sound_halt, sound_constant, sound_load, sound_store, sound_operator, sound_invert, sound_deny, sound_jump, sound_test, sound_read, sound_write, sound_allocate, sound_release, sound_call, sound_return, each_at}
 use Rattle.faithful.proofs.Following.Scripts.{operator_decoded}
-use Rattle.faithful.proofs.Lockstep.Tests.{leb-true, ltb-true, leb_true_le, leb_false_lt, eqb_false, both_true, by_test, when_false, when_true, second_false}
+use Rattle.std.proofs.lemmas.Bool.{le-leb, lt-ltb, leb-true, leb-false, ne_eqb, and_from, and_right}
+use Rattle.faithful.proofs.Lockstep.Tests.{by_test, when_false, when_true}
 use Rattle.faithful.proofs.Lockstep.Memory.{fill_of, LaidOut, fill_at_least, laid_push, Restored, restoring, laid_restore, fill_save, laid_pop, laid_save, laid_store}
 use Rattle.faithful.proofs.Lockstep.Faults.{Shared, shared, shared_held}
 
@@ -75,10 +76,10 @@ module _ (N V K : ℕ) (V1 : 1 ≤ V) where
       (λ e lt. inl (
         set mem (fill_of V h) v,
         refl,
-        laid_push V K l h mem v m (omega (arith, leb_true_le (fill_of V h + 1) (length mem) e, m.long)),
+        laid_push V K l h mem v m (omega (arith, leb-true (fill_of V h + 1) (length mem) e, m.long)),
         omega arith,
       ))
-      (λ e lt. inr (refl, omega (arith, leb_false_lt (fill_of V h + 1) (length mem) e, m.long)))
+      (λ e lt. inr (refl, omega (arith, leb-false (fill_of V h + 1) (length mem) e, m.long)))
 
   jump_in_step : (a : ℕ) (l : Cells) (h : List ℤ) (o : Io) (mem : List ℤ) (d : ℕ) → fill_of V h ≤ d →
       LaidOut V K l h mem →
@@ -86,7 +87,7 @@ module _ (N V K : ℕ) (V1 : 1 ≤ V) where
       (elim (ltb a N) [ true ↦ goes (real V a h mem) o.host | false ↦ stops NoEntry ])
   jump_in_step a l h o mem d le m lt =
       when_true (λ r. ((mem1 : List ℤ) × (r ≡ goes (real V a h mem1) o.host) × LaidOut V K l h mem1
-      × (fill_of V h ≤ d + V)) ⊎ ((r ≡ stops CellsFull) × (K < d + V))) _ _ (ltb a N) (ltb-true a N lt)
+      × (fill_of V h ≤ d + V)) ⊎ ((r ≡ stops CellsFull) × (K < d + V))) _ _ (ltb a N) (lt-ltb a N lt)
       (inl (mem, refl, m, omega arith))
 
   -- an operator's result, where the stack has d under its operands
@@ -121,7 +122,7 @@ module _ (N V K : ℕ) (V1 : 1 ≤ V) where
       let now1 : Now = now i (w ∷ v ∷ h) o mem e in
       let x : two u now1 ≡ put_result 2 now1 (combine u v w) =
       when_true (λ r. r ≡ put_result 2 now1 (combine u v w)) _ _ (leb 2 (suc (suc d)))
-      (leb-true 2 (suc (suc d)) (omega arith))
+      (le-leb 2 (suc (suc d)) (omega arith))
       (ap (λ z. put_result 2 now1 (combine u (get_or mem z (pos 0)) (get_or mem (suc (suc d) - 1) (pos 0)))) e2
       ∙ (ap (λ z. put_result 2 now1 (combine u (get_or mem d (pos 0)) (get_or mem z (pos 0)))) e1
       ∙ (ap (λ z. put_result 2 now1 (combine u z (get_or mem (suc d) (pos 0)))) m.high.1.0
@@ -142,7 +143,7 @@ module _ (N V K : ℕ) (V1 : 1 ≤ V) where
       let m1 = laid_pop V K l v h mem m in
       let now1 : Now = now i (v ∷ h) o mem e in
       let x : one f now1 ≡ put_result 1 now1 (f v) =
-      when_true (λ r. r ≡ put_result 1 now1 (f v)) _ _ (leb 1 (suc d)) (leb-true 1 (suc d) (omega arith))
+      when_true (λ r. r ≡ put_result 1 now1 (f v)) _ _ (leb 1 (suc d)) (le-leb 1 (suc d) (omega arith))
       (ap (λ z. put_result 1 now1 (f (get_or mem z (pos 0)))) e1 ∙ ap (λ z. put_result 1 now1 (f z)) m.high.0) in
       result_in_step i l h o mem (f v) (suc d) d (omega arith) refl (omega (arith, m.room)) m1 (s v) (one f now1)
       (λ z q. x ∙ (ap (put_result 1 now1) q
@@ -166,8 +167,8 @@ module _ (N V K : ℕ) (V1 : 1 ≤ V) where
       let d : ℕ = fill_of V h in
       let m1 = laid_pop V K l v h mem m in
       let Q : Went → Type 0 = InStep N V K (suc d) (next (state (suc i) (updated l c v) h o)) in
-      when_true Q _ _ (leb 1 (suc d)) (leb-true 1 (suc d) (omega arith))
-      (when_true Q _ _ (ltb c (suc d)) (ltb-true c (suc d) (omega (arith, fill_at_least V h)))
+      when_true Q _ _ (leb 1 (suc d)) (le-leb 1 (suc d) (omega arith))
+      (when_true Q _ _ (ltb c (suc d)) (lt-ltb c (suc d) (omega (arith, fill_at_least V h)))
       (λ z. inl (
         set mem c v,
         ap (λ x. goes (real V (suc i) h (set mem c x)) o.host) (top_of l v h mem m),
@@ -186,7 +187,7 @@ module _ (N V K : ℕ) (V1 : 1 ≤ V) where
         | false ↦ goes (real V (suc i) h mem) o.host
       ] in
       let Q : Went → Type 0 = InStep N V K (suc (fill_of V h)) (next (state (cond (eqZ v (pos 0)) a (suc i)) l h o)) in
-      when_true Q _ _ (leb 1 (suc (fill_of V h))) (leb-true 1 (suc (fill_of V h)) (omega arith))
+      when_true Q _ _ (leb 1 (suc (fill_of V h))) (le-leb 1 (suc (fill_of V h)) (omega arith))
       (subst (λ x. Q (F x)) (sym (top_of l v h mem m)) (at (eqZ v (pos 0))))
     where
       at : (b : Bool) → InStep N V K (suc (fill_of V h)) (next (state (cond b a (suc i)) l h o))
@@ -211,7 +212,7 @@ module _ (N V K : ℕ) (V1 : 1 ≤ V) where
       at [] =
           by_test (InStep N V K (fill_of V h) (stop NothingWaiting)) (leb (fill_of V h + 1) (length mem))
           (stops NothingWaiting) (stops CellsFull) (λ e. (omega arith, inl refl))
-          (λ e. (omega arith, inr (refl, omega (arith, leb_false_lt (fill_of V h + 1) (length mem) e, m.long))))
+          (λ e. (omega arith, inr (refl, omega (arith, leb-false (fill_of V h + 1) (length mem) e, m.long))))
       at (v ∷ vs) =
           push_in_step (suc i) l h (record {
             host = record { waiting = vs; written = o.host.written; room = o.host.room };
@@ -225,7 +226,7 @@ module _ (N V K : ℕ) (V1 : 1 ≤ V) where
   write_in_step p i l [] o mem m = tt
   write_in_step p i l (v ∷ h) o mem m =
       when_true (InStep N V K (suc (fill_of V h)) (with_written o.host.room v (suc i) l h o)) _ _
-      (leb 1 (suc (fill_of V h))) (leb-true 1 (suc (fill_of V h)) (omega arith)) (at o.host.room)
+      (leb 1 (suc (fill_of V h))) (le-leb 1 (suc (fill_of V h)) (omega arith)) (at o.host.room)
     where
       at : (r : ℕ) → InStep N V K (suc (fill_of V h)) (with_written r v (suc i) l h o)
           (put r (now i (v ∷ h) o mem (plain PRN p)))
@@ -247,7 +248,7 @@ module _ (N V K : ℕ) (V1 : 1 ≤ V) where
   return_in_step p i l [] o mem m = tt
   return_in_step p i l (v ∷ h) o mem m =
       let Q : Went → Type 0 = InStep N V K (suc (fill_of V h)) (return_to v l h o) in
-      when_true Q _ _ (leb 1 (suc (fill_of V h))) (leb-true 1 (suc (fill_of V h)) (omega arith))
+      when_true Q _ _ (leb 1 (suc (fill_of V h))) (le-leb 1 (suc (fill_of V h)) (omega arith))
       (subst (λ x. Q (jump x mem (fill_of V h) (now i (v ∷ h) o mem (plain RETURN p)))) (sym (top_of l v h mem m))
       (at v))
     where
@@ -265,10 +266,10 @@ module _ (N V K : ℕ) (V1 : 1 ≤ V) where
       let d : ℕ = fill_of V h in
       let g = fill_at_least V h in
       let Q : Went → Type 0 = InStep N V K d (next (state (suc i) (clear l a (suc n)) (save l a (suc n) h) o)) in
-      when_false Q _ _ (ltb a (suc d) && eqb a d) (second_false (ltb a (suc d)) (eqb a d) (eqb_false a d (omega arith)))
+      when_false Q _ _ (ltb a (suc d) && eqb a d) (and_right (ltb a (suc d)) (eqb a d) (ne_eqb a d (omega arith)))
       (when_true Q _ _ (ltb a (suc d) && leb (a + suc n) d)
-      (both_true (ltb a (suc d)) (leb (a + suc n) d) (ltb-true a (suc d) (omega arith))
-      (leb-true (a + suc n) d (omega arith)))
+      (and_from (ltb a (suc d)) (leb (a + suc n) d) (lt-ltb a (suc d) (omega arith))
+      (le-leb (a + suc n) d (omega arith)))
       (by_test (InStep N V K d (next (state (suc i) (clear l a (suc n)) (save l a (suc n) h) o)))
       (leb (d + suc n) (length mem))
       (goes (record {
@@ -283,10 +284,10 @@ module _ (N V K : ℕ) (V1 : 1 ≤ V) where
           fill = x;
           at = suc i;
         }) o.host) (sym (fill_save V K l a (suc n) h)),
-        laid_save V K l h mem a (suc n) m le (omega (arith, leb_true_le (d + suc n) (length mem) e, m.long)),
+        laid_save V K l h mem a (suc n) m le (omega (arith, leb-true (d + suc n) (length mem) e, m.long)),
         omega (arith, fill_save V K l a (suc n) h),
       ))
-      (λ e z. inr (refl, omega (arith, leb_false_lt (d + suc n) (length mem) e, m.long)))))
+      (λ e z. inr (refl, omega (arith, leb-false (d + suc n) (length mem) e, m.long)))))
 
   -- DALLOC below the filled cells
   release_in_step : (a n p i : ℕ) (l : Cells) (h : List ℤ) (o : Io) (mem : List ℤ) → a + suc n ≤ V →
@@ -319,12 +320,12 @@ module _ (N V K : ℕ) (V1 : 1 ≤ V) where
             ]
           ] in
           subst (λ x. InStep N V K d x r) (sym u.is)
-          (when_true Q _ _ (leb (suc n) d) (leb-true (suc n) d (omega (arith, u.deep))) (subst (λ x. Q (F x)) (sym e1)
+          (when_true Q _ _ (leb (suc n) d) (le-leb (suc n) d (omega (arith, u.deep))) (subst (λ x. Q (F x)) (sym e1)
           (when_false Q _ _ (ltb a (suc d1) && eqb a d1)
-          (second_false (ltb a (suc d1)) (eqb a d1) (eqb_false a d1 (omega arith)))
+          (and_right (ltb a (suc d1)) (eqb a d1) (ne_eqb a d1 (omega arith)))
           (when_true Q _ _ (ltb a (suc d1) && leb (a + suc n) d1)
-          (both_true (ltb a (suc d1)) (leb (a + suc n) d1) (ltb-true a (suc d1) (omega arith))
-          (leb-true (a + suc n) d1 (omega arith)))
+          (and_from (ltb a (suc d1)) (leb (a + suc n) d1) (lt-ltb a (suc d1) (omega arith))
+          (le-leb (a + suc n) d1 (omega arith)))
           (λ z. inl (
             write mem a (cut mem d1 (suc n)),
             refl,
@@ -343,7 +344,7 @@ module _ (N V K : ℕ) (V1 : 1 ≤ V) where
       let Q : Went → Type 0 = InStep N V K (fill_of V h) (next (state (suc i) l (l c ∷ h) o)) in
       let F : ℤ → Went = λ x. elim (leb (fill_of V h + 1) (length mem))
       [ true ↦ goes (real V (suc i) (x ∷ h) (set mem (fill_of V h) x)) o.host | false ↦ stops CellsFull ] in
-      when_true Q _ _ (ltb c (fill_of V h)) (ltb-true c (fill_of V h) (omega (arith, fill_at_least V h)))
+      when_true Q _ _ (ltb c (fill_of V h)) (lt-ltb c (fill_of V h) (omega (arith, fill_at_least V h)))
       (subst (λ x. Q (F x)) (sym (m.low c lt)) (push_in_step (suc i) l h o mem (l c) m))
   instruction_in_step e i l h o mem (sound_store {c} {p} lt) m = store_in_step c p i l h o mem lt m
   instruction_in_step e i l h o mem (sound_operator {p} u) m =
@@ -365,7 +366,7 @@ module _ (N V K : ℕ) (V1 : 1 ≤ V) where
   instruction_in_step e i l h o mem (sound_call {a}) m = λ lt.
       when_true (λ r. ((mem1 : List ℤ) × (r ≡ goes (real V a (pos (suc i) ∷ h) mem1) o.host)
       × LaidOut V K l (pos (suc i) ∷ h) mem1 × (suc (fill_of V h) ≤ fill_of V h + V))
-      ⊎ ((r ≡ stops CellsFull) × (K < fill_of V h + V))) _ _ (ltb a N) (ltb-true a N lt)
+      ⊎ ((r ≡ stops CellsFull) × (K < fill_of V h + V))) _ _ (ltb a N) (lt-ltb a N lt)
       (push_in_step a l h o mem (pos (suc i)) m lt)
   instruction_in_step e i l h o mem (sound_return {p}) m = return_in_step p i l h o mem m
 
@@ -374,7 +375,7 @@ module _ (E : List Entry) (V K : ℕ) (V1 : 1 ≤ V) (good : Each (SoundEntry V)
       InStep (length E) V K (fill_of V h) (ideal_step (table E) (state i l h o)) (step E (real V i h mem) o.host)
   step_in_step i l h o mem lt m =
       when_true (InStep (length E) V K (fill_of V h) (ideal_step (table E) (state i l h o))) _ _ (ltb i (length E))
-      (ltb-true i (length E) lt) (instruction_in_step (length E) V K V1 (get_or E i no_entry) i l h o mem
+      (lt-ltb i (length E) lt) (instruction_in_step (length E) V K V1 (get_or E i no_entry) i l h o mem
       (each_at (SoundEntry V) E i good lt) m)
 
   -- outside the table the ideal machine crashes

@@ -1,4 +1,5 @@
 -- The judge keeps what it holds well scoped, whatever the token.
+use Rattle.std.proofs.lemmas.Bool.{false≢true}
 use mathlib.Core.Path.{◌≡◌, refl}
 use mathlib.Core.Bool.{true≢false, Bool, true, false}
 use mathlib.Core.List.{List, [], ◌∷◌}
@@ -243,16 +244,13 @@ variable_scoped room (s ∷ cs) n sc nr =
     declares_scoped room cs s n (s.first + s.cells + 1) (on (wait s n ∷ cs) past_variable)
     (wait_sound s cs n nr sc, nr)
 
-false_not_true : false ≡ true → ⊥
-false_not_true e = true≢false cc
-
 procedure_scoped : (room : ℕ) (cs : List Scope) (p : ℕ) (n : List ℕ) → ScopesSound [] cs →
     JudgedScoped (new_procedure room cs p n)
 procedure_scoped room [] p n sc = tt
 procedure_scoped room (s ∷ cs) p n sc =
     declares_scoped room cs s n 0
     (on (opened s p procedure 0 ∷ with_routine_name s n (a_procedure s.count) ∷ cs) want_head_end) (
-      opened_sound s cs p procedure 0 n (a_procedure s.count) (λ e. absurd (false_not_true e))
+      opened_sound s cs p procedure 0 n (a_procedure s.count) (λ e. absurd (false≢true e))
           (count_at s cs procedure sc)
           sc,
       refl,
@@ -299,7 +297,7 @@ past_group_scoped room cs (sign g) p sc nr = tt
 opened_program : (p : ℕ) → ScopesSound [] (program_opened p ∷ [])
 opened_program p = (
   record {
-    result_cell = λ e. absurd (false_not_true e);
+    result_cell = λ e. absurd (false≢true e);
     routines_scoped = tt;
     count_right = refl;
     names_known = tt;

@@ -3,5 +3,5 @@ use Rattle.std.proofs.Common.{◌≡◌}
 use Rattle.pile.specs.Piles.{blanked}
 use Rattle.pile.proofs.spans.blank.Given as goal
 
-abbrev pub invariant-loop-k : goal.invariant-loop-k
-invariant-loop-k g l = l.cells ≡ blanked l.initial.cells l.from l.k l.x
+abbrev pub invariant-loop-cell : goal.invariant-loop-cell
+invariant-loop-cell g l = l.span ≡ blanked l.initial.span 0 l.cell-index l.x

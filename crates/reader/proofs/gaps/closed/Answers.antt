@@ -1,19 +1,15 @@
 -- A comment goes on over every byte but a closing brace.
-use Rattle.std.proofs.Common.{refl, ◌∙◌, arith}
-use Rattle.reader.proofs.Skipping.{comment_on, comment_end, comment_out}
+use Rattle.std.proofs.Common.{◌≡◌, ◌+◌, drop, eqb, ap, ◌∙◌, sym, rules, tests, arith}
+use Rattle.std.proofs.lemmas.Iterator.{YieldsList-from_slice}
+use Rattle.std.proofs.lemmas.Iterator.Search.{position_from_yields_List}
+use Rattle.std.proofs.lemmas.Slice.{between_to_end}
+use Rattle.std.specs.Option.{option_map}
+use Rattle.reader.specs.Pieces.{closing}
+use Rattle.reader.proofs.Skipping.{comment_closes}
 use Rattle.reader.proofs.gaps.closed.Goals as goal
 
-pub loop-at-init : goal.loop-at-init
-loop-at-init c = λ o. refl
-
-pub loop-at-preserved : goal.loop-at-preserved
-loop-at-preserved c = λ o. c.loop-at.invariant o ∙ comment_on c.args.text.now c.loop-at.at (omega arith) o c.if-text-at-eq125.false
-
-pub returns-then-text-at-eq125 : goal.returns-then-text-at-eq125
-returns-then-text-at-eq125 c = record {
-  within = (omega arith, omega arith);
-  closes = λ o. c.loop-at.invariant o ∙ comment_end c.args.text.now c.loop-at.at (omega arith) o c.if-text-at-eq125.true;
-}
-
-pub returns : goal.returns
-returns c = record { within = tt; closes = λ o. c.loop-at.invariant o ∙ comment_out c.args.text.now c.loop-at.at o (omega arith) }
+pub returns-clause-closes : goal.returns-clause-closes
+returns-clause-closes c = λ o.
+    let it = position_from_yields_List {all = drop c.args.from c.args.text.now} (λ b. eqb b 125) _ _ c.position.result c.position.ensures.ran (YieldsList-from_slice _ (c.iter.ensures.rest ∙ between_to_end c.args.text.now c.args.from _ (omega arith))) (λ x b q k. search (rules, tests)) in
+    let m : c.map.result ≡ option_map (λ n. c.args.from + n + 1) c.position.result = search rules in
+    comment_closes c.args.text.now o c.args.from c.position.result it ∙ ap (closing o c.args.text.now) (sym m)

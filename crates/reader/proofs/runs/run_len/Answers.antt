@@ -1,21 +1,12 @@
--- A run ends at the first byte that does not go on with it.
-use Rattle.std.proofs.Common.{take, sym, refl, ap, ◌∙◌, arith}
-use Rattle.reader.specs.Classes.{passes}
-use Rattle.reader.proofs.Table.{run_classed}
-use Rattle.reader.proofs.Fronts.{front_more, front_stop, front_all}
+-- The bytes that pass are counted up to the first that does not.
+use Rattle.std.proofs.Common.{◌∙◌, rules}
+use Rattle.std.proofs.lemmas.Iterator.{YieldsList-from_slice}
+use Rattle.std.proofs.lemmas.Iterator.Consumers.{count_from_yields_List}
+use Rattle.std.proofs.lemmas.Iterator.Search.{YieldsList-from_take_while}
+use Rattle.std.proofs.lemmas.List.Folds.{length-prefix_len}
 use Rattle.reader.proofs.runs.run_len.Goals as goal
 
-pub loop-n-init : goal.loop-n-init
-loop-n-init c = refl
-
-pub loop-n-preserved : goal.loop-n-preserved
-loop-n-preserved c = front_more (passes c.args.run) c.args.rest.now c.loop-n.n (omega arith) c.loop-n.invariant (run_classed c.args.run _ c.class_of.result c.class_of.ensures ∙ sym c.if-not-goes_on.ensures)
-
-pub returns-then-not-goes_on : goal.returns-then-not-goes_on
-returns-then-not-goes_on c = record {
-  within = omega arith;
-  longest = front_stop (passes c.args.run) c.args.rest.now c.loop-n.n (omega arith) c.loop-n.invariant (run_classed c.args.run _ c.class_of.result c.class_of.ensures ∙ sym c.if-not-goes_on.ensures);
-}
-
-pub returns : goal.returns
-returns c = record { within = omega arith; longest = front_all (passes c.args.run) c.args.rest.now c.loop-n.n c.loop-n-test.false c.loop-n.invariant ∙ ap (λ k. take k c.args.rest.now) (omega arith) }
+pub returns-clause-longest : goal.returns-clause-longest
+returns-clause-longest g c = λ p h.
+    count_from_yields_List c.take_while.result _ c.count.ensures.ran (YieldsList-from_take_while _ p (YieldsList-from_slice c.args.rest.now cc) c.take_while.ensures.closure c.take_while.ensures.done (λ x b q k. search (rules, h)))
+    ∙ length-prefix_len p c.args.rest.now

@@ -9,15 +9,13 @@ use Rattle.scopes.proofs.Turning.{cut_back}
 use Rattle.scopes.proofs.Declaring.{carried, routine_closes}
 use Rattle.scopes.proofs.Scopes.close.Goals as goal
 
-pub returns : goal.returns
-returns c =
+pub returns-clause-closes : goal.returns-clause-closes
+returns-clause-closes c =
     let s = c.args.self.now in
-    let cut = cut_back s.records c.cut.new.self c.spent-level.result c.cut.result c.cut.ensures in
-    record {
-      closes = λ over i o os b x e.
-          let level : c.spent-level.result ≡ length x.outer = c.spent-level.ensures ∙ e ∙ sym (counted (text_of s) over (o ∷ os) x.outer (some i.scope.which) i.scope.first x.below) in
-          let back = cut.0 (omega (arith, level, counted (text_of s) over (i ∷ o ∷ os) (records_of s) none 0 x, e)) ∙ older_part (front s.records) (x.top ++ x.own) x.outer c.spent-level.result (x.parts ∙ sym (append_assoc x.top x.own x.outer)) level in
-          let left = routine_closes (text_of s) over o os b x.outer i.scope.which i.scope.first x.below in
-          carried (text_of s) _ over none 0 (ended o b ∷ os) _ _ c.leave.ensures.keeps.0 (c.leave.ensures.leaves left.head left.tail (back ∙ left.whole)) left.knows;
-      keeps = (c.leave.ensures.keeps.0, c.leave.ensures.keeps.1 ∙ cut.1.0, c.leave.ensures.keeps.2 ∙ cut.1.1);
-    }
+    let level = c.args.block.level in
+    λ over i o os b x e.
+    let n : level ≡ length x.outer = e ∙ sym (counted (text_of s) over (o ∷ os) x.outer (some i.scope.which) i.scope.first x.below) in
+    let back = cut_back s.records c.cut.new.self level c.cut.result c.cut.ensures (omega (arith, n, counted (text_of s) over (i ∷ o ∷ os) (records_of s) none 0 x, e))
+    ∙ older_part (front s.records) (x.top ++ x.own) x.outer level (x.parts ∙ sym (append_assoc x.top x.own x.outer)) n in
+    let left = routine_closes (text_of s) over o os b x.outer i.scope.which i.scope.first x.below in
+    carried (text_of s) _ over none 0 (ended o b ∷ os) _ _ c.leave.ensures.keeps.0 (c.leave.ensures.leaves left.head left.tail (back ∙ left.whole)) left.knows

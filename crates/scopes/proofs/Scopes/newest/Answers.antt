@@ -1,27 +1,21 @@
 -- From the newest record down.
-use Rattle.std.proofs.Common.{reverse, drop, sym, ap, ◌∙◌, arith, length-take}
-use Rattle.scopes.specs.Records.{newest}
+use Rattle.std.proofs.Common.{◌≡◌, ◌-◌, reverse, drop, length, ap, ◌∙◌, arith, length-drop, rules, tests}
+use Rattle.std.proofs.lemmas.Iterator.Adapters.{YieldsList-from_rev_slice}
+use Rattle.std.proofs.lemmas.Iterator.Search.{find_from_yields_List}
+use Rattle.std.specs.List.{slice_range}
+use Rattle.std.proofs.lemmas.List.{take_all}
 use Rattle.pile.specs.Piles.{front}
-use Rattle.scopes.proofs.Scanning.{found_here, found_below, nothing_left, all_of_it}
+use Rattle.model.specs.Reading.{same}
+use Rattle.scopes.specs.Records.{newest, spelling}
+use Rattle.scopes.proofs.Scanning.{found_newest}
 use Rattle.scopes.proofs.Scopes.newest.Goals as goal
 
-pub loop-at-init : goal.loop-at-init
-loop-at-init c =
-    let p = c.args.self.now.records in
-    let e = length-take p.fill p.cells.now in
-    (omega (arith, c.fill-at.ensures), ap (λ ys. newest c.args.self.now.text.now c.args.name.now (reverse (drop c.args.from ys))) (sym (all_of_it (front p) c.fill-at.result (e ∙ sym c.fill-at.ensures))))
-
-pub returns-then-is_spelled : goal.returns-then-is_spelled
-returns-then-is_spelled c =
-    let p = c.args.self.now.records in
-    let e = length-take p.fill p.cells.now in
-    sym (c.loop-at.invariant.1 ∙ found_here _ _ (front p) c.args.from c.loop-at.at c.in-Ok.known c.loop-at-test.true (omega (arith, e, c.in-Ok.ensures.0)) c.in-Ok.ensures.1 c.if-is_spelled.ensures)
-
-pub loop-at-preserved : goal.loop-at-preserved
-loop-at-preserved c =
-    let p = c.args.self.now.records in
-    let e = length-take p.fill p.cells.now in
-    (omega (arith, c.loop-at.invariant.0), c.loop-at.invariant.1 ∙ found_below _ _ (front p) c.args.from c.loop-at.at c.in-Ok.known c.loop-at-test.true (omega (arith, e, c.in-Ok.ensures.0)) c.in-Ok.ensures.1 c.if-is_spelled.ensures)
-
 pub returns : goal.returns
-returns c = sym (c.loop-at.invariant.1 ∙ nothing_left _ _ (front c.args.self.now.records) c.args.from c.loop-at.at c.loop-at-test.false)
+returns c =
+    let text = c.args.self.now.text.now in
+    let name = c.args.name.now in
+    let held = front c.args.self.now.records in
+    let part : c.in_ok-records.records.now ≡ drop c.args.from held
+    = c.in_ok-records.ensures.lookup.0.2 ∙ ap (λ xs. slice_range xs c.args.from (length xs)) c.filled.ensures ∙ take_all (length held - c.args.from) (drop c.args.from held) (omega (arith, length-drop c.args.from held)) in
+    c.copied.ensures ∙ find_from_yields_List (λ n. same name (spelling text n)) _ _ c.find.result c.find.ensures.ran (YieldsList-from_rev_slice c.in_ok-records.records.now cc) (λ x b q k. search (rules, tests)) ∙ found_newest text name (reverse c.in_ok-records.records.now)
+    ∙ ap (λ ns. newest text name (reverse ns)) part

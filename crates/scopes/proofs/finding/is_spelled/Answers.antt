@@ -1,14 +1,17 @@
 -- The bytes of the text that the record names.
-use Rattle.std.proofs.Common.{ap, ◌∙◌, arith, rules}
-use Rattle.std.proofs.lemmas.List.{same_lists, places}
+use Rattle.std.proofs.Common.{◌+◌, min, length, ap, ◌∙◌}
+use Rattle.std.proofs.lemmas.Slice.Eq.{slice_eq-Decides}
+use Rattle.std.proofs.lemmas.Bool.Decides.{Decides-eqb}
 use Rattle.model.specs.Reading.{same}
+use Rattle.reader.proofs.Spelling.{tested}
+use Rattle.scopes.proofs.Scanning.{within}
 use Rattle.scopes.proofs.finding.is_spelled.Goals as goal
 
-pub returns-then-place-text : goal.returns-then-place-text
-returns-then-place-text c = c.alike.ensures ∙ ap (same c.args.name.now) (same_lists _ _ (search (rules, places)) (λ k d g. grind (arith, places)))
-
-pub returns-then-length-rest : goal.returns-then-length-rest
-returns-then-length-rest c = c.alike-then-length-rest.ensures ∙ ap (same c.args.name.now) (same_lists _ _ (search (rules, places)) (λ k d g. grind (arith, places)))
-
 pub returns : goal.returns
-returns c = c.alike-2.ensures ∙ ap (same c.args.name.now) (same_lists _ _ (search (rules, places)) (λ k d g. grind (arith, places)))
+returns c =
+    let text = c.args.text.now in
+    let known = c.args.known.now in
+    let e =
+    within text known.place known.length c.min-from.result c.min-to.result (c.min-from.ensures ∙ ap (min (length text)) c.from.ensures)
+    (c.min-to.ensures ∙ ap (λ n. min (length text) (c.min-from.result + n)) c.from-2.ensures) in
+    tested c.args.name.now _ c.eq.result (slice_eq-Decides Decides-eqb c.args.name.now _ c.eq.result c.eq.ensures) ∙ ap (same c.args.name.now) e

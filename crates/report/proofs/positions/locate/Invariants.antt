@@ -1,7 +1,0 @@
--- Line and column are those of the bytes gone over.
-use Rattle.std.proofs.Common.{◌≡◌, suc, take}
-use Rattle.report.specs.Positions.{newlines, since_newline}
-use Rattle.report.proofs.positions.locate.Given as goal
-
-abbrev pub invariant-loop-i : goal.invariant-loop-i
-invariant-loop-i l = (l.line ≡ suc (newlines (take l.i l.text))) × (l.column ≡ suc (since_newline 0 (take l.i l.text)))

@@ -1,8 +1,0 @@
--- Equal slices hold the same bytes.
-use Rattle.std.proofs.lemmas.Slice.Eq.{slice_eq-Decides}
-use Rattle.reader.proofs.Spelling.{tested}
-use Rattle.scopes.proofs.finding.alike.Goals as goal
-use Rattle.std.proofs.lemmas.Bool.Decides.{Decides-eqb}
-
-pub returns : goal.returns
-returns c = tested c.args.name.now c.args.other.now c.eq.result (slice_eq-Decides Decides-eqb c.args.name.now c.args.other.now c.eq.result c.eq.ensures)
