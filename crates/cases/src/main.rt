@@ -97,6 +97,7 @@ fn check_text<K: Kind>(
     Ok(tally)
 }
 
+// The file is read, and `main` ends, as in `lpd`: the two programs share no crate for so few lines.
 fn check_tables(rt: &HostRuntime) -> anyhow::Result<()> {
     let text = match fs::read_to_string(rt, TABLES) {
         Ok(text) => text,

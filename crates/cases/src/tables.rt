@@ -154,7 +154,8 @@ impl TableCase {
         Ok(())
     }
 
-    // The runs in turn, up to the first that tells something else.
+    // The runs in turn, up to the first that tells something else. Not by `same`: an answer is shown by `Display`, which
+    // lists have not.
     fn check_runs<H: Host>(
         &self,
         heap: Global,

@@ -12,6 +12,7 @@ use reader::tokens::Token;
 
 impl<'a> Cursor<'a> {
     /// Whether the token ahead is this word.
+    // Apart from `is_sign`: a word and a sign are two types, with two definitions.
     pub fn is_word(&self, word: Word) -> bool
         ensures { result ≡ is_word word (ahead_of self.now) }
     {

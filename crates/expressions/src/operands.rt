@@ -39,6 +39,7 @@ impl Translation<'_, '_> {
         requires { ahead_of self.old.cursor.now ≡ some (Tokens.name name.now) }
         ensures { (n : ℕ) → Translates factor (whole factor) self.old n self.new result }
     {
+        // Written out, as in `commands`: behind it each goes on in its own way, and says so of the judge's look-up.
         let Some(known) = self.names.look_up(name) else {
             return Err(self.cursor.wrong(MeaningFault::NotVisible));
         };

@@ -54,6 +54,7 @@ pub(crate) fn yielded(operator: Operator, left: Ty, right: Ty) -> Option<Ty>
 }
 
 /// Whether a type is that of numbers.
+// Kept beside `==`, since it is public.
 pub fn is_inteiro(ty: Ty) -> bool
     ensures { result ≡ is_inteiro ty }
 {

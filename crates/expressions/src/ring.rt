@@ -80,6 +80,7 @@ impl Translation<'_, '_> {
     fn lead(&mut self, depth: usize) -> Result<Ty, Fault>
         ensures { Translates Parts.simple (growing Parts.simple) self.old depth self.new result }
     {
+        // Two tests, and no `match`: each gives `signed` what it asks of the token ahead.
         if self.cursor.is_sign(Sign::Plus) {
             return self.signed(Sign::Plus, depth);
         }
@@ -134,6 +135,7 @@ impl Translation<'_, '_> {
         }
         self.cursor.advance()?;
         let ty = self.expression(depth + 1)?;
+        // Written out, as in `commands`: the contract of a method for it would have to say both ways out.
         if !self.cursor.is_sign(Sign::CloseBracket) {
             return Err(self.cursor.unexpected());
         }

@@ -106,6 +106,7 @@ impl<'a> Listing<'a> {
     }
 
     /// Lays a jump whose target is to come.
+    // By its code, as `entry_of` is.
     pub fn lay_open(&mut self, code: u8, place: u16) -> OpenJump
         ensures lists { (es : List Entry) → Lists self.old es → Lists self.new (es ++ (entry code 0 0 place ∷ [])) }
         ensures stands { ((es : List Entry) → Lists self.old es → Stands result self.old es) × (jump_code result ≡ code) × (jump_place result ≡ place) }

@@ -52,6 +52,7 @@ fn show_tokens(rt: &impl Print, text: &[u8]) -> io::Result<Result<usize, Fault>>
     }
 }
 
+// The file is read, and `main` ends, as in `cases`: the two programs share no crate for so few lines.
 fn list(rt: &HostRuntime) -> anyhow::Result<()> {
     let text = match fs::read(rt, SCRIPT) {
         Ok(text) => text,

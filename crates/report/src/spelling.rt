@@ -6,7 +6,8 @@ ghost use Rattle.model.specs.Reading.{same, pick, words, long_signs, short_signs
 use model::tokens::{Sign, Word};
 
 /// The spelling that the reader takes for the word.
-// A function, as for signs, and no `Display`, which has no clause on what it writes.
+// A function, as for signs, which are another type with another definition, and no `Display`, which has no clause on
+// what it writes.
 pub fn word_text(word: Word) -> &'static str
     ensures { pick same result.now words ≡ some word }
 {

@@ -8,7 +8,7 @@ use model::names::NameKind;
 //
 // Not the shared record of `model`, which the definitions of the calls name: that has no `inside`, and an entry of 32 bits.
 // Flat, with 0 or `false` where a kind has none: as payloads of the kinds, cell and entry would be named for each. By
-// place and length of the spelling, and no slice: the records lie in memory that is lent for longer than the text.
+// place and length of the spelling, and no slice: memory is lent and fixed, and a record holds no borrow.
 #[derive(Clone, Copy, PartialEq, Eq, Debug)]
 pub struct Name {
     pub place: u16,
