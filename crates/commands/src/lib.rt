@@ -1,6 +1,7 @@
 //! Commands that hold no other command: assignments, calls of procedures, `leia` and `escreva`; and conditions.
 //!
-//! What stays or is passed by (`Kept`, `Passed`) is a clause of each function: it relates two moments.
+//! What is left alone (`Kept`), and that tokens were taken (`Passed`), is a clause of each function: it relates two
+//! moments.
 #![tactic(auto)]
 
 pub mod apart;

@@ -50,6 +50,9 @@ impl<'a, T: Copy> Pile<'a, T> {
     }
 
     /// Puts what `f` makes of it in the place of each element from `from` on, up to the top.
+    ///
+    /// Only the crates of this repository call it. They owe what every closure is owed: that `f` may be called at any
+    /// element. What it leaves is said for an `f` that makes one element of each, as a function does.
     pub fn update<F: Fn(T) -> T + Drop>(&mut self, from: usize, f: F)
         requires { F.IsAlwaysCallable f }
         ensures { (g : T → T) → ((x y : T) → F.post f x y → y ≡ g x) → Updated self.old from g self.new }
