@@ -1,6 +1,6 @@
 //! What is done to a span of a pile: to `n` places from one on.
 ghost use Rattle.std.specs.Prelude.{◌≡◌, ◌+◌, ◌≤◌, length, MatchResult};
-ghost use Rattle.pile.specs.Piles.{blanked, LaidTimes, NoRoomFor, Lifted, NoLift, Lowered, NoLowering, Updated};
+ghost use Rattle.pile.specs.Piles.{blanked, LaidTimes, NoRoomFor, Lifted, NoLift, Lowered, NoLowering, Replaced, Updated};
 
 use crate::{Pile, Refusal};
 
@@ -52,10 +52,12 @@ impl<'a, T: Copy> Pile<'a, T> {
     /// Puts what `f` makes of it in the place of each element from `from` on, up to the top.
     ///
     /// Only the crates of this repository call it. They owe what every closure is owed: that `f` may be called at any
-    /// element. What it leaves is said for an `f` that makes one element of each, as a function does.
+    /// element. Whatever `f` is, each of these places then holds what `f` may make of what stood there, and all else is
+    /// as it was. Where `f` makes one element of each, as a function does, this says which one.
     pub fn update<F: Fn(T) -> T + Drop>(&mut self, from: usize, f: F)
         requires { F.IsAlwaysCallable f }
-        ensures { (g : T → T) → ((x y : T) → F.post f x y → y ≡ g x) → Updated self.old from g self.new }
+        ensures each { Replaced self.old from (F.post f) self.new }
+        ensures updated { (g : T → T) → ((x y : T) → F.post f x y → y ≡ g x) → Updated self.old from g self.new }
     {
         let fill = self.fill;
         let span = &mut self.cells[from.min(fill)..fill];

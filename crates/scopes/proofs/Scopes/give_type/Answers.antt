@@ -10,7 +10,7 @@ use Rattle.scopes.proofs.Typing.{same_room, newest_made}
 use Rattle.scopes.proofs.Scopes.give_type.Goals as goal
 
 typed : (c : goal.After-update) → Updated c.args.self.now.records c.args.from (with_type c.args.ty) c.update.new.self
-typed c = c.update.ensures (with_type c.args.ty) (λ known made k. search (rules, k))
+typed c = c.update.ensures.updated (with_type c.args.ty) (λ known made k. search (rules, k))
 
 pub returns-clause-gives : goal.returns-clause-gives
 returns-clause-gives c = λ over o os x e.
