@@ -4,7 +4,6 @@ ghost use Rattle.model.specs.Reading.{comment};
 ghost use Rattle.reader.specs.Pieces.{closing, Behind, Skips};
 
 use super::classes::{Class, class_of};
-use super::runs::run_len;
 use model::faults::{Placed, ReaderFault};
 
 // The place behind the first closing brace from `from` on.
@@ -13,9 +12,14 @@ fn closed(text: &[u8], from: usize) -> Option<usize>
     ensures within { Behind text.now from result }
     ensures closes { (o : ℕ) → comment o from (drop from text.now) ≡ closing o text.now result }
 {
-    // Not by `position`: with it a long comment took 1.4 times as long.
-    let at = from + run_len(&text[from..], |b| b != b'}');
-    (at < text.len()).then_some(at + 1)
+    // By index: with `position`, or a slice pattern, a long comment took 1.4 times as long; with `run_len`, short comments or
+    // the blanks around them 1.5 times or more.
+    for at in from..text.len() {
+        if text[at] == b'}' {
+            return Some(at + 1);
+        }
+    }
+    None
 }
 
 // The place of the next byte that is neither a blank nor in a comment.

@@ -3,8 +3,6 @@ ghost use Rattle.std.specs.Prelude.{◌≡◌, ℕ, ◌≤◌, Bool, length};
 ghost use Rattle.std.specs.List.{prefix_len};
 
 // How many bytes at the front pass the test.
-// Inlined, since a name or a comment is often short: as a call, short comments took 1.7 times as long.
-#[inline]
 pub(crate) fn run_len<P: Fn(u8) -> bool>(rest: &[u8], passes: P) -> usize
     requires { P.IsAlwaysCallable passes }
     ensures within { result ≤ length rest.now }

@@ -1,16 +1,19 @@
 -- A comment goes on over every byte but a closing brace.
-use Rattle.std.proofs.Common.{ap, ◌∙◌, rules, tests, arith}
-use Rattle.std.proofs.lemmas.Slice.{between_to_end}
-use Rattle.std.specs.List.{prefix_len}
-use Rattle.reader.proofs.Skipping.{goes_on, comment_closes}
+use Rattle.std.proofs.Common.{refl, ◌∙◌, arith}
+use Rattle.reader.proofs.Skipping.{comment_on, comment_end, comment_out}
 use Rattle.reader.proofs.gaps.closed.Goals as goal
 
+pub loop-at-init : goal.loop-at-init
+loop-at-init c = λ o. refl
+
+pub loop-at-preserved : goal.loop-at-preserved
+loop-at-preserved c = λ o. c.loop-at.invariant o ∙ comment_on c.args.text.now c.loop-at.at (omega arith) o c.if-text-at-eq125.false
+
+pub returns-then-text-at-eq125 : goal.returns-then-text-at-eq125
+returns-then-text-at-eq125 c = record {
+  within = (omega arith, omega arith);
+  closes = λ o. c.loop-at.invariant o ∙ comment_end c.args.text.now c.loop-at.at (omega arith) o c.if-text-at-eq125.true;
+}
+
 pub returns : goal.returns
-returns c =
-    let text = c.args.text.now in
-    let from = c.args.from in
-    let run = c.run_len.ensures.longest goes_on (λ b r e. search (rules, tests)) ∙ ap (prefix_len goes_on) (between_to_end text from _ (omega arith)) in
-    record {
-      within = search rules;
-      closes = λ o. rw c.then_some.ensures (comment_closes text o from c.run_len.result c.requires run);
-    }
+returns c = record { within = tt; closes = λ o. c.loop-at.invariant o ∙ comment_out c.args.text.now c.loop-at.at o (omega arith) }
